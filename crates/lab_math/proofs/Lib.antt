@@ -1,0 +1,14 @@
+pub mod DivisorLemmas
+pub mod ListParts
+pub mod ListTests
+pub mod Ring
+pub mod Ranges
+pub mod SumLemmas
+pub mod Members
+pub mod NaturalSums
+pub mod Multiples
+pub mod IntegerSums
+pub mod Integers
+pub mod BelowLemmas
+pub mod Totals
+pub mod Elements

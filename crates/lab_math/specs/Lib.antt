@@ -1,0 +1,4 @@
+pub mod Divisors
+pub mod Sums
+pub mod Below
+pub mod Greatest
