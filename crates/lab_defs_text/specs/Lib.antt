@@ -1,0 +1,13 @@
+pub mod Words
+pub mod Numbers
+pub mod Fractions
+pub mod Games
+pub mod Lines
+pub mod Texts
+pub mod Faults
+pub mod Steps
+pub mod Reading
+pub mod Drafts
+pub mod Assembly
+pub mod Readings
+pub mod Laws
