@@ -1,0 +1,10 @@
+pub mod Keys
+pub mod Histories
+pub mod Sets
+pub mod Chance
+pub mod Forms
+pub mod Nodes
+pub mod Unfolding
+pub mod Recall
+pub mod Counts
+pub mod Laws
