@@ -1,0 +1,12 @@
+pub mod Rounding
+pub mod Tables
+pub mod Expectation
+pub mod Parents
+pub mod Replies
+pub mod BestValues
+pub mod Bounds
+pub mod Allowances
+pub mod Splices
+pub mod Passes
+pub mod Laws
+pub mod WholeLaws

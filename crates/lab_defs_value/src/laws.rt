@@ -1,0 +1,109 @@
+//! Laws of best values, bounds and allowances.
+
+ghost use Rattle.lab_defs_value.specs.WholeLaws.{UniformLaw, WholeLaw};
+ghost use Rattle.lab_defs_value.specs.Laws.{
+  FormTestLaw,
+  UniqueBestLaw,
+  SettleLaw,
+  ExpectationLaw,
+  GuaranteeLaw,
+  WholeIsTableLaw,
+  WholeTableLaw,
+  BestTableLaw,
+  BackedUpLaw,
+  BestValueLaw,
+  HoldsLaw,
+  HoldsTestLaw,
+  ReachLaw,
+  PoolLaw,
+  PathLaw,
+  PassLaw,
+  SpliceLaw,
+  StayLaw,
+  SafeLaw,
+  SizeLaw,
+};
+
+/// The even split has weights that sum to the grid.
+pub fn uniform()
+    ensures { UniformLaw }
+{}
+
+/// Chances and own weights lose nothing: over the terminal histories of an accepted game they sum
+/// to the units in which an expectation is counted.
+pub fn whole()
+    ensures { WholeLaw }
+{}
+
+/// Whether a form is one, as a seat sees it, can be computed.
+pub fn forms()
+    ensures { FormTestLaw }
+{}
+
+/// What a seat expects is what its table earns as a reply, so bounds that hold limit it.
+pub fn expectations()
+    ensures earned { ExpectationLaw }
+    ensures guarantee { GuaranteeLaw }
+{}
+
+/// The whole grid on one action at each deciding set is a table, and its seat expects by it what the
+/// pure reply earns, times the power of the grid: the best value, where that reply is a best one, as some is.
+pub fn whole_tables()
+    ensures is_table { WholeIsTableLaw }
+    ensures expected { WholeTableLaw }
+    ensures best { BestTableLaw }
+{}
+
+/// A set has at most one best value: one that no reply exceeds and that a pure reply earns.
+pub fn unique_best()
+    ensures { UniqueBestLaw }
+{}
+
+/// The best values are the numbers that are backed up from the last set to the first.
+pub fn backed_up()
+    ensures { BackedUpLaw }
+{}
+
+/// A table may be mended from the last set back: numbers that are best values stay, and the others are backed up.
+pub fn settling()
+    ensures { SettleLaw }
+{}
+
+/// The most that pure replies earn is the best value at each set; so there is one.
+pub fn best_values()
+    ensures { BestValueLaw }
+{}
+
+/// Where each bound is at least what each action backs up, no reply earns more than the bounds.
+pub fn holding_tables()
+    ensures bounds { HoldsLaw }
+    ensures test { HoldsTestLaw }
+{}
+
+/// By reach the sets on a path share the pools of the steps that they follow, and nothing is left over.
+pub fn reach_allowances()
+    ensures each { ReachLaw }
+    ensures sums { PoolLaw }
+    ensures paths { PathLaw }
+{}
+
+/// Best values decide whether a strategy passes, whatever the replies.
+pub fn passing()
+    ensures { PassLaw }
+{}
+
+/// A splice changes the weights of its span alone, and so what replies earn on the rows that come there alone.
+pub fn splices()
+    ensures weights { SpliceLaw }
+    ensures earnings { StayLaw }
+{}
+
+/// A splice that passes at the sets of a node leaves the bound of the whole strategy standing.
+pub fn safe_splices()
+    ensures { SafeLaw }
+{}
+
+/// How large own weights, earnings and best values are at most.
+pub fn sizes()
+    ensures { SizeLaw }
+{}

@@ -1,0 +1,4 @@
+//! Definitions of strategies and what they earn.
+#![tactic(auto)]
+
+pub mod laws;
