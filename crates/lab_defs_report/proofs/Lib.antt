@@ -1,0 +1,4 @@
+pub mod Beginnings
+pub mod LimitLaws
+pub mod PlainLaw
+pub mod SketchLemmas

@@ -1,0 +1,78 @@
+-- The commands of a session, and the lines that give them.
+use Rattle.std.specs.Prelude.{ℕ, ◌+◌, List, [], ◌∷◌, length, Bool, true, Result, Ok, Err, ◌==◌, if◌then◌else◌}
+use Rattle.std.specs.Str.{bytes_eq}
+use lib.Chars.{codes}
+use Rattle.lab_defs_text.specs.Words.{Bytes, words, first_empty}
+use Rattle.lab_defs_text.specs.Faults.{LineFault, lexical, bad_space_at, bad_word_at}
+use Rattle.lab_defs_text.specs.Steps.{◌>>=◌}
+use Rattle.lab_defs_text.specs.Reading.{one_word, number_at}
+use Rattle.lab_defs_value.specs.Allowances.{Rule, cfrd, margin, reach}
+
+pub data Command : Type 0 where
+  expect_uniform : Command
+  expect : Command
+  blueprint_uniform : Command
+  blueprint_given : (weights : List ℕ) → Command
+  bound : (seat : ℕ) → Command
+  show : (seat : ℕ) → Command
+  propose : (seat node : ℕ) (rule : Rule) (weights : List ℕ) → Command
+
+-- the word of a rule
+abbrev pub rule_word : Rule → Bytes
+rule_word cfrd = codes "cfrd"
+rule_word margin = codes "margin"
+rule_word reach = codes "reach"
+
+-- a number of 32 bits
+abbrev pub small_at : ℕ → Bytes → Result ℕ LineFault
+small_at place word = number_at place 0 4294967295 word
+
+-- numbers, the first of them at the place
+abbrev pub smalls_at : ℕ → List Bytes → Result (List ℕ) LineFault
+smalls_at place [] = Ok []
+smalls_at place (w ∷ ws) = small_at place w >>= λ n. smalls_at (place + 1) ws >>= λ ns. Ok (n ∷ ns)
+
+-- a rule
+abbrev pub rule_at : ℕ → Bytes → Result Rule LineFault
+rule_at place word =
+    if bytes_eq word (codes "cfrd") then Ok cfrd else if bytes_eq word (codes "margin") then Ok margin
+    else if bytes_eq word (codes "reach") then Ok reach else Err (bad_word_at place)
+
+-- no word more, behind n words and the first
+abbrev pub ends_behind : ℕ → List Bytes → Result Bool LineFault
+ends_behind n [] = Ok true
+ends_behind n (w ∷ ws) = Err (bad_word_at (n + 2))
+
+-- ---- each command by the words behind its first
+
+abbrev pub expect_of : List Bytes → Result Command LineFault
+expect_of [] = Ok expect
+expect_of (w ∷ ws) = if bytes_eq w (codes "uniform") then (ends_behind 1 ws >>= λ x. Ok expect_uniform) else Err (bad_word_at 2)
+
+abbrev pub blueprint_of : List Bytes → Result Command LineFault
+blueprint_of [] = Err (bad_word_at 2)
+blueprint_of (w ∷ ws) =
+    if bytes_eq w (codes "uniform") then (ends_behind 1 ws >>= λ x. Ok blueprint_uniform)
+    else if bytes_eq w (codes "given") then (smalls_at 3 ws >>= λ ns. Ok (blueprint_given ns)) else Err (bad_word_at 2)
+
+abbrev pub bound_of : List Bytes → Result Command LineFault
+bound_of ws = one_word ws >>= λ w. small_at 2 w >>= λ seat. Ok (bound seat)
+
+abbrev pub show_of : List Bytes → Result Command LineFault
+show_of ws = one_word ws >>= λ w. small_at 2 w >>= λ seat. Ok (show seat)
+
+abbrev pub propose_of : List Bytes → Result Command LineFault
+propose_of (s ∷ n ∷ r ∷ ws) = small_at 2 s >>= λ seat. small_at 3 n >>= λ node. rule_at 4 r >>= λ rule. smalls_at 5 ws >>= λ ns. Ok (propose seat node rule ns)
+propose_of ws = Err (bad_word_at (length ws + 2))
+
+-- a command by its words
+abbrev pub command_of : List Bytes → Result Command LineFault
+command_of [] = Err (bad_word_at 1)
+command_of (w ∷ ws) =
+    if bytes_eq w (codes "expect") then expect_of ws else if bytes_eq w (codes "blueprint") then blueprint_of ws
+    else if bytes_eq w (codes "bound") then bound_of ws else if bytes_eq w (codes "show") then show_of ws
+    else if bytes_eq w (codes "propose") then propose_of ws else Err (bad_word_at 1)
+
+-- a command by the bytes of its line
+abbrev pub command_at : Bytes → Result Command LineFault
+command_at line = if first_empty 1 (words line) == 0 then command_of (words line) else Err (lexical (bad_space_at (first_empty 1 (words line))))

@@ -1,0 +1,9 @@
+pub mod Plain
+pub mod Sketch
+pub mod Reports
+pub mod Laws
+pub mod Commands
+pub mod States
+pub mod Refusals
+pub mod Modes
+pub mod Headline

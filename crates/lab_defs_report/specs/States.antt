@@ -1,0 +1,214 @@
+-- The state of a session, and what a command does to it.
+use Rattle.std.specs.Prelude.{ℕ, ◌+◌, ℤ, List, [], ◌∷◌, length, map, sum, take, drop, slice_index, slice_index_or, Bool, true, not, ◌&&◌, ◌||◌, ◌==◌, nat_le, nat_lt, if◌then◌else◌, Option, Some, None, Result, Ok, Err}
+use Rattle.std.specs.List.{range_with_len}
+use lib.Chars.{codes}
+use Rattle.lab_defs_text.specs.Words.{Bytes}
+use Rattle.lab_defs_text.specs.Numbers.{numeral}
+use Rattle.lab_defs_text.specs.Fractions.{fraction_text}
+use Rattle.lab_defs_text.specs.Games.{GameModel}
+use Rattle.lab_defs_text.specs.Steps.{◌>>=◌}
+use Rattle.lab_defs_game.specs.Sets.{sets}
+use Rattle.lab_defs_game.specs.Nodes.{nodes}
+use Rattle.lab_defs_game.specs.Forms.{form_of, game_actions}
+use Rattle.lab_defs_value.specs.Tables.{weights_of, first_weight}
+use Rattle.lab_defs_value.specs.Expectation.{grid_of, expectation, expectation_units, expectation_of_uniform, uniform_of}
+use Rattle.lab_defs_value.specs.Replies.{Strategy, strategy_of, other}
+use Rattle.lab_defs_value.specs.BestValues.{best_value}
+use Rattle.lab_defs_value.specs.Bounds.{at, bound_units}
+use Rattle.lab_defs_value.specs.Allowances.{Rule, allowance, path_sets, node_sets}
+use Rattle.lab_defs_value.specs.Splices.{subgame_sets, replaced}
+use Rattle.lab_defs_value.specs.Passes.{excess, least_margin, first_above}
+use Rattle.lab_defs_report.specs.Commands.{Command, expect_uniform, expect, blueprint_uniform, blueprint_given, bound, show, propose, rule_word}
+
+-- the tables of both seats, and the bounds of each seat: numbers at the sets of its opponent
+pub record Plays : Type 0 where
+  pub table1 : List ℕ
+  pub table2 : List ℕ
+  pub bounds1 : List ℤ
+  pub bounds2 : List ℤ
+
+-- a game, and from the blueprint on the strategies
+pub record State : Type 0 where
+  pub game : GameModel
+  pub plays : Option Plays
+
+-- why a command is refused, in the order in which the reasons are looked for
+pub data SessionFault : Type 0 where
+  no_blueprint : SessionFault
+  second_blueprint : SessionFault
+  bad_seat : SessionFault
+  no_node : (count : ℕ) → SessionFault
+  no_decision : SessionFault
+  wrong_count : (needed given : ℕ) → SessionFault
+  wrong_sum : (seat set : ℕ) → SessionFault
+
+-- ---- tables and bounds
+
+abbrev pub table_of : Plays → ℕ → List ℕ
+table_of p seat = if seat == 1 then p.table1 else p.table2
+
+abbrev pub bounds_of : Plays → ℕ → List ℤ
+bounds_of p seat = if seat == 1 then p.bounds1 else p.bounds2
+
+-- the strategy of a seat
+abbrev pub played_by : GameModel → Plays → ℕ → Strategy
+played_by g p seat = strategy_of g seat (table_of p seat)
+
+-- the best value at each set of the opponent
+abbrev pub tight_bounds : GameModel → ℕ → List ℕ → List ℤ
+tight_bounds g seat table = map (best_value (strategy_of g seat table)) (range_with_len 0 (length (sets g (other seat))))
+
+-- both tables with their tight bounds
+abbrev pub plays_of : GameModel → (table1 table2 : List ℕ) → Plays
+plays_of g table1 table2 = record { table1 = table1; table2 = table2; bounds1 = tight_bounds g 1 table1; bounds2 = tight_bounds g 2 table2 }
+
+-- the plays with another table of a seat, and its tight bounds
+abbrev pub with_play : GameModel → Plays → ℕ → List ℕ → Plays
+with_play g p seat table =
+    if seat == 1 then record { table1 = table; table2 = p.table2; bounds1 = tight_bounds g 1 table; bounds2 = p.bounds2 }
+    else record { table1 = p.table1; table2 = table; bounds1 = p.bounds1; bounds2 = tight_bounds g 2 table }
+
+-- how many weights a table of a seat has
+abbrev pub weight_count : GameModel → ℕ → ℕ
+weight_count g seat = first_weight (game_actions g seat) (length (game_actions g seat))
+
+-- the first of some sets, from number `set` on, whose weights do not sum to the grid
+abbrev pub first_wrong_sum : (grid set : ℕ) → (actions weights : List ℕ) → Option ℕ
+first_wrong_sum grid set [] weights = None
+first_wrong_sum grid set (n ∷ ns) weights =
+    if nat_le 2 n && not (sum (take n weights) == grid) then Some set else first_wrong_sum grid (set + 1) ns (drop (weights_of n) weights)
+
+abbrev pub unless_wrong : {A : Type 0} → ℕ → Option ℕ → A → Result A SessionFault
+unless_wrong seat None x = Ok x
+unless_wrong seat (Some set) x = Err (wrong_sum seat set)
+
+abbrev pub counted : {A : Type 0} → (needed given : ℕ) → A → Result A SessionFault
+counted needed given x = if needed == given then Ok x else Err (wrong_count needed given)
+
+-- the tables that a list of weights gives, seat 1's first
+abbrev pub given_tables : GameModel → List ℕ → Result Plays SessionFault
+given_tables g ws =
+    let first = take (weight_count g 1) ws in
+    let second = drop (weight_count g 1) ws in
+    counted (weight_count g 1 + weight_count g 2) (length ws) true >>= λ x.
+    unless_wrong 1 (first_wrong_sum (grid_of g 1) 0 (game_actions g 1) first) true >>= λ y.
+    unless_wrong 2 (first_wrong_sum (grid_of g 2) 0 (game_actions g 2) second) true >>= λ z. Ok (plays_of g first second)
+
+-- ---- replies, as the words of a line
+
+abbrev pub seat_bound : GameModel → Plays → ℕ → Bytes
+seat_bound g p seat = fraction_text (at (bounds_of p seat) 0) (bound_units g seat)
+
+abbrev pub blueprint_reply : GameModel → Plays → List Bytes
+blueprint_reply g p = codes "blueprint" ∷ seat_bound g p 1 ∷ seat_bound g p 2 ∷ []
+
+abbrev pub uniform_reply : GameModel → List Bytes
+uniform_reply g = codes "expect" ∷ fraction_text (expectation_of_uniform g) (expectation_units g) ∷ []
+
+abbrev pub expect_reply : GameModel → Plays → List Bytes
+expect_reply g p = codes "expect" ∷ fraction_text (expectation (grid_of g 1) (grid_of g 2) (form_of g) p.table1 p.table2) (expectation_units g) ∷ []
+
+abbrev pub bound_reply : GameModel → Plays → ℕ → List Bytes
+bound_reply g p seat = codes "bound" ∷ numeral seat ∷ seat_bound g p seat ∷ []
+
+abbrev pub show_reply : Plays → ℕ → List Bytes
+show_reply p seat = codes "show" ∷ numeral seat ∷ map numeral (table_of p seat)
+
+-- ---- proposals
+
+-- what was proposed: for which seat, at which node, by which rule
+pub record Proposal : Type 0 where
+  pub seat : ℕ
+  pub node : ℕ
+  pub rule : Rule
+  pub weights : List ℕ
+
+-- the public list of its node
+abbrev pub node_list : GameModel → Proposal → List ℕ
+node_list g q = slice_index_or (nodes g) q.node []
+
+-- the table with the proposal in place
+abbrev pub proposed_table : GameModel → Plays → Proposal → List ℕ
+proposed_table g p q = replaced g q.seat (node_list g q) (table_of p q.seat) q.weights
+
+-- the allowances at the sets of the path, by the bounds as they stand
+abbrev pub allowances : GameModel → Plays → Proposal → ℕ → ℕ
+allowances g p q = allowance q.rule (played_by g p q.seat) (at (bounds_of p q.seat)) (path_sets g (other q.seat) (node_list g q))
+
+-- the root sets: those of the opponent at the node
+abbrev pub root_sets : GameModel → Proposal → List ℕ
+root_sets g q = node_sets g (other q.seat) (node_list g q)
+
+-- the words that a reply to a proposal begins with, behind its first
+abbrev pub judged : Proposal → List Bytes → List Bytes
+judged q ws = numeral q.seat ∷ numeral q.node ∷ rule_word q.rule ∷ ws
+
+-- the state and the reply where the first root set above its limit is given
+abbrev pub verdict : GameModel → Plays → Proposal → Option ℕ → Plays × List Bytes
+verdict g p q (Some set) = (
+  p,
+  codes "kept" ∷ judged q (numeral set
+      ∷ fraction_text (excess (strategy_of g q.seat (proposed_table g p q)) (at (bounds_of p q.seat)) (allowances g p q) set) (bound_units g q.seat)
+      ∷ seat_bound g p q.seat ∷ []),
+)
+verdict g p q None =
+    let after = with_play g p q.seat (proposed_table g p q) in (
+      after,
+      codes "accepted" ∷ judged q (fraction_text (least_margin (strategy_of g q.seat (proposed_table g p q)) (at (bounds_of p q.seat)) (allowances g p q) (root_sets g q)) (bound_units g q.seat)
+          ∷ seat_bound g after q.seat ∷ []),
+    )
+
+-- a proposal is accepted where no root set is above its limit
+abbrev pub propose_to : GameModel → Plays → Proposal → Plays × List Bytes
+propose_to g p q = verdict g p q (first_above (strategy_of g q.seat (proposed_table g p q)) (at (bounds_of p q.seat)) (allowances g p q) (root_sets g q))
+
+-- ---- refusals of the session
+
+abbrev pub some_plays : State → Result Plays SessionFault
+some_plays s = elim s.plays [ Some p ↦ Ok p | None ↦ Err no_blueprint ]
+
+abbrev pub no_plays : State → Result Bool SessionFault
+no_plays s = elim s.plays [ Some p ↦ Err second_blueprint | None ↦ Ok true ]
+
+abbrev pub good_seat : ℕ → Result Bool SessionFault
+good_seat seat = if (seat == 1) || (seat == 2) then Ok true else Err bad_seat
+
+abbrev pub good_node : GameModel → ℕ → Result Bool SessionFault
+good_node g node = if nat_lt node (length (nodes g)) then Ok true else Err (no_node (length (nodes g)))
+
+-- the numbers of actions of the seat's sets in the subgame
+abbrev pub inside_actions : GameModel → Proposal → List ℕ
+inside_actions g q = map (slice_index (game_actions g q.seat)) (subgame_sets g q.seat (node_list g q))
+
+abbrev pub inside_count : GameModel → Proposal → ℕ
+inside_count g q = first_weight (inside_actions g q) (length (inside_actions g q))
+
+abbrev pub decides_there : GameModel → Proposal → Result Bool SessionFault
+decides_there g q = if inside_count g q == 0 then Err no_decision else Ok true
+
+-- the weights of a proposal are as many as are needed, and sum to the grid
+abbrev pub good_weights : GameModel → Proposal → Result Bool SessionFault
+good_weights g q =
+    counted (inside_count g q) (length q.weights) true >>= λ x.
+    unless_wrong q.seat (first_wrong_sum (grid_of g q.seat) (slice_index (subgame_sets g q.seat (node_list g q)) 0) (inside_actions g q) q.weights) true
+
+-- ---- a step
+
+abbrev pub kept : State → List Bytes → Result (State × List Bytes) SessionFault
+kept s reply = Ok (s, reply)
+
+abbrev pub playing : State → Plays → List Bytes → Result (State × List Bytes) SessionFault
+playing s p reply = Ok (record { game = s.game; plays = Some p }, reply)
+
+-- the state behind a command, and its reply
+abbrev pub step_of : State → Command → Result (State × List Bytes) SessionFault
+step_of s expect_uniform = kept s (uniform_reply s.game)
+step_of s expect = some_plays s >>= λ p. kept s (expect_reply s.game p)
+step_of s blueprint_uniform = no_plays s >>= λ x. let p = plays_of s.game (uniform_of s.game 1) (uniform_of s.game 2) in playing s p (blueprint_reply s.game p)
+step_of s (blueprint_given ws) = no_plays s >>= λ x. given_tables s.game ws >>= λ p. playing s p (blueprint_reply s.game p)
+step_of s (bound seat) = some_plays s >>= λ p. good_seat seat >>= λ x. kept s (bound_reply s.game p seat)
+step_of s (show seat) = some_plays s >>= λ p. good_seat seat >>= λ x. kept s (show_reply p seat)
+step_of s (propose seat node rule ws) =
+    let q : Proposal = record { seat = seat; node = node; rule = rule; weights = ws } in
+    some_plays s >>= λ p. good_seat seat >>= λ x. good_node s.game node >>= λ y. decides_there s.game q >>= λ z. good_weights s.game q >>= λ w.
+    let r = propose_to s.game p q in playing s r.0 r.1
