@@ -1,0 +1,16 @@
+//! Worked examples: each is the contract of a function without a body, which the check computes from the
+//! definitions, from the bytes of the input to the bytes of the output.
+#![tactic(auto)]
+
+pub mod checks;
+pub mod commands;
+pub mod fork;
+pub mod inputs;
+pub mod kuhn;
+pub mod limits;
+pub mod pennies;
+pub mod prints;
+pub mod session;
+pub mod texts;
+pub mod trees;
+pub mod values;

@@ -1,0 +1,55 @@
+//! What the mode `session` writes.
+ghost use Rattle.std.specs.Prelude.{◌≡◌, ◌++◌, ◌∷◌, []};
+ghost use lib.Chars.{codes};
+ghost use Rattle.lab_defs_report.specs.Reports.{report_of};
+ghost use Rattle.lab_examples.specs.Inputs.{text, session, pennies, fork};
+
+/// Matching pennies on a grid of 2 is fair.
+pub fn pennies_on_an_even_grid()
+    ensures { report_of session (pennies (codes "2") ++ text (codes "expect uniform" ∷ [])) ≡ text (codes "expect 0/1" ∷ []) }
+{}
+
+/// On a grid of 3 the even split favours the first side: 2 to 1.
+pub fn pennies_on_an_odd_grid()
+    ensures { report_of session (pennies (codes "3") ++ text (codes "expect uniform" ∷ [])) ≡ text (codes "expect 1/9" ∷ []) }
+{}
+
+/// Each command has its reply.
+pub fn pennies_twice()
+    ensures { report_of session (pennies (codes "3") ++ text (codes "expect uniform" ∷ codes "expect uniform" ∷ [])) ≡ text (codes "expect 1/9" ∷ codes "expect 1/9" ∷ []) }
+{}
+
+/// A game without commands has no reply.
+pub fn pennies_alone()
+    ensures { report_of session (pennies (codes "2")) ≡ [] }
+{}
+
+/// An empty input is not plain.
+pub fn empty()
+    ensures { report_of session [] ≡ text (codes "refused 0 NotBuilt" ∷ []) }
+{}
+
+/// A game of more than one step is not plain.
+pub fn fork_is_not_plain()
+    ensures { report_of session fork ≡ text (codes "refused 0 NotBuilt" ∷ []) }
+{}
+
+/// Another command is not built.
+pub fn another_command()
+    ensures { report_of session (pennies (codes "2") ++ text (codes "bound 1" ∷ [])) ≡ text (codes "refused 0 NotBuilt" ∷ []) }
+{}
+
+/// A command that no line feed ends is not one.
+pub fn no_line_feed()
+    ensures { report_of session (pennies (codes "2") ++ codes "expect uniform") ≡ text (codes "refused 0 NotBuilt" ∷ []) }
+{}
+
+/// One number has one spelling.
+pub fn a_leading_zero()
+    ensures { report_of session (pennies (codes "02") ++ text (codes "expect uniform" ∷ [])) ≡ text (codes "refused 0 NotBuilt" ∷ []) }
+{}
+
+/// Words that are no mode are answered with the usage line.
+pub fn no_mode()
+    ensures { report_of (codes "session" ∷ codes "x" ∷ []) [] ≡ text (codes "usage: lab session | check | print | verify | generate KIND SIZE | survey KIND SIZE" ∷ []) }
+{}
