@@ -1,0 +1,65 @@
+//! Sources and sinks of bytes that count their faults: in memory and over std, whole writes, and a
+//! reader that takes no more than its allowance.
+#![tactic(auto)]
+
+mod line_reader;
+mod memory_sink;
+mod memory_source;
+mod sink;
+mod source;
+mod std_streams;
+mod write;
+
+pub use line_reader::{LineReader, READ_AHEAD, ReadStop};
+pub use memory_sink::MemSink;
+pub use memory_source::MemSource;
+pub use sink::Sink;
+pub use source::Source;
+pub use std_streams::{StdSink, StdSource};
+pub use write::write_whole;
+
+/// A read or a write failed. The count of faults of what failed has risen, or stood at its greatest.
+#[derive(Clone, Copy, Debug, PartialEq, Eq)]
+pub struct Failed;
+
+/// No memory was left.
+#[derive(Clone, Copy, Debug, PartialEq, Eq)]
+pub struct NoMemory;
+
+#[cfg(test)]
+mod tests {
+    use super::*;
+    use std::test::Fail;
+
+    #[test]
+    fn answers_with_ample_memory(rt: HostRuntime) -> Result<(), Fail> {
+        let alloc = rt.alloc();
+        let mut source = MemSource::new(vec![in alloc; 7; READ_AHEAD + 5]?, Vec::new(alloc));
+        let mut reader = LineReader::start(alloc)?;
+        reader.allow(65541);
+        let bytes = reader.rest(&mut source)?;
+        let mut sink = MemSink::new(alloc, 65541, Vec::new(alloc))?;
+        write_whole(&mut sink, &bytes)?;
+        let mut again = StdSource::new(sink.bytes());
+        reader.allow(65541);
+        write_whole(
+            &mut StdSink::new(Vec::new(alloc)),
+            &reader.rest(&mut again)?,
+        )?;
+        assert_eq!(rt; bytes.len(), 65541);
+        Ok(())
+    }
+
+    #[test]
+    fn stops_at_a_fault_in_mid_stream(rt: HostRuntime) -> Result<(), Fail> {
+        let alloc = rt.alloc();
+        let mut source = MemSource::new(vec![in alloc; 7; READ_AHEAD + 5]?, vec![in alloc; 1]?);
+        let mut reader = LineReader::start(alloc)?;
+        reader.allow(65541);
+        assert!(rt; reader.rest(&mut source) == Err(ReadStop::ReadFault));
+        let mut reader = LineReader::start(alloc)?;
+        reader.allow(5);
+        assert_eq!(rt; reader.rest(&mut source)?.len(), 5);
+        Ok(())
+    }
+}
