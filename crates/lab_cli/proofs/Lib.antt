@@ -1,0 +1,13 @@
+pub mod ActionNameLemmas
+pub mod BuiltGames
+pub mod FollowedTexts
+pub mod LineLengths
+pub mod NumberWords
+pub mod OneStepHistories
+pub mod OneStepLemmas
+pub mod PlacedLines
+pub mod PlainGames
+pub mod RowSums
+pub mod RunLemmas
+pub mod WeightLemmas
+pub mod WriteLemmas
