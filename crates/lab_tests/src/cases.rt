@@ -19,6 +19,10 @@ const THREE_BY_TWO: &str =
 const ONE_BY_THREE: &str =
     "fosg 1\ngrid 7\nhorizon 1\nmemory acts\ntoken x\nworld w\none only\ntwo a b c\nrow only a\nto 1 e x x x\nrow only b\nto 1 f x x x\nrow only c\nto 1 e x x x\nend e -7\nend f 12\nroot w\ndone\n";
 
+// A game of two steps.
+const FORK: &str =
+    "fosg 1\ngrid 3\nhorizon 2\nmemory acts\ntoken -\ntoken in\ntoken out\ntoken red\ntoken blue\nworld start\none .\ntwo out in\nrow . out\nto 1 lose - - out\nrow . in\nto 1 warm - red in\nto 1 cold - blue in\nworld warm\none l r\ntwo .\nrow l .\nto 1 lose - - -\nrow r .\nto 1 win - - -\nworld cold\none l r\ntwo .\nrow l .\nto 1 lose - - -\nrow r .\nto 1 tie - - -\nend win 1\nend lose -1\nend tie 0\nroot start\ndone\n";
+
 const USAGE: &str =
     "usage: lab session | check | print | verify | generate KIND SIZE | survey KIND SIZE\n";
 
@@ -80,8 +84,14 @@ fn outcome(alloc: Global, case: &Case) -> Result<(Status, bool), Fail> {
 }
 
 #[test]
-fn answers_and_refusals(rt: HostRuntime) -> Result<(), Fail> {
+fn answers_refusals_and_faults(rt: HostRuntime) -> Result<(), Fail> {
     let not_built = "refused 0 NotBuilt\n";
+    let answered = session(
+        PENNIES_3,
+        "expect uniform\nexpect uniform\n",
+        "",
+        Status::Done,
+    );
     let cases = [
         session(PENNIES_2, "expect uniform\n", "expect 0/1\n", Status::Done),
         session(PENNIES_3, "expect uniform\n", "expect 1/9\n", Status::Done),
@@ -99,28 +109,11 @@ fn answers_and_refusals(rt: HostRuntime) -> Result<(), Fail> {
             Status::Done,
         ),
         session("", "", not_built, Status::Refused),
+        session(FORK, "", not_built, Status::Refused),
         session(PENNIES_2, "bound 1\n", not_built, Status::Refused),
         session(PENNIES_2, "expect uniform", not_built, Status::Refused),
         session(PENNIES_2, "expect  uniform\n", not_built, Status::Refused),
         session("", PENNIES_2.trim_end(), not_built, Status::Refused),
-    ];
-    for (number, case) in cases.iter().enumerate() {
-        let (status, same) = outcome(rt.alloc(), case)?;
-        assert!(rt; same, "output of case {number}");
-        assert_eq!(rt; status, case.status, "status of case {number}");
-    }
-    Ok(())
-}
-
-#[test]
-fn faults_and_words(rt: HostRuntime) -> Result<(), Fail> {
-    let answered = session(
-        PENNIES_3,
-        "expect uniform\nexpect uniform\n",
-        "",
-        Status::Done,
-    );
-    let cases = [
         Case {
             failing_read: Some(0),
             status: Status::ReadFault,
