@@ -1,4 +1,0 @@
-pub mod Beginnings
-pub mod LimitLaws
-pub mod PlainLaw
-pub mod SketchLemmas

@@ -13,9 +13,14 @@ pub data Command : Type 0 where
   expect : Command
   blueprint_uniform : Command
   blueprint_given : (weights : List ℕ) → Command
+  blueprint_solve : (rounds : ℕ) → Command
   bound : (seat : ℕ) → Command
   show : (seat : ℕ) → Command
   propose : (seat node : ℕ) (rule : Rule) (weights : List ℕ) → Command
+  resolve : (seat node : ℕ) (rule : Rule) (rounds : ℕ) → Command
+  cert : (seat : ℕ) → Command
+  deal : (draws : List ℕ) → Command
+  play : (rounds : ℕ) → Command
 
 -- the word of a rule
 abbrev pub rule_word : Rule → Bytes
@@ -31,6 +36,15 @@ small_at place word = number_at place 0 4294967295 word
 abbrev pub smalls_at : ℕ → List Bytes → Result (List ℕ) LineFault
 smalls_at place [] = Ok []
 smalls_at place (w ∷ ws) = small_at place w >>= λ n. smalls_at (place + 1) ws >>= λ ns. Ok (n ∷ ns)
+
+-- a number of 64 bits
+abbrev pub draw_at : ℕ → Bytes → Result ℕ LineFault
+draw_at place word = number_at place 0 18446744073709551615 word
+
+-- such numbers, the first of them at the place
+abbrev pub draws_at : ℕ → List Bytes → Result (List ℕ) LineFault
+draws_at place [] = Ok []
+draws_at place (w ∷ ws) = draw_at place w >>= λ n. draws_at (place + 1) ws >>= λ ns. Ok (n ∷ ns)
 
 -- a rule
 abbrev pub rule_at : ℕ → Bytes → Result Rule LineFault
@@ -49,11 +63,16 @@ abbrev pub expect_of : List Bytes → Result Command LineFault
 expect_of [] = Ok expect
 expect_of (w ∷ ws) = if bytes_eq w (codes "uniform") then (ends_behind 1 ws >>= λ x. Ok expect_uniform) else Err (bad_word_at 2)
 
+abbrev pub solve_of : List Bytes → Result Command LineFault
+solve_of [] = Err (bad_word_at 3)
+solve_of (w ∷ ws) = ends_behind 2 ws >>= λ x. small_at 3 w >>= λ n. Ok (blueprint_solve n)
+
 abbrev pub blueprint_of : List Bytes → Result Command LineFault
 blueprint_of [] = Err (bad_word_at 2)
 blueprint_of (w ∷ ws) =
     if bytes_eq w (codes "uniform") then (ends_behind 1 ws >>= λ x. Ok blueprint_uniform)
-    else if bytes_eq w (codes "given") then (smalls_at 3 ws >>= λ ns. Ok (blueprint_given ns)) else Err (bad_word_at 2)
+    else if bytes_eq w (codes "given") then (smalls_at 3 ws >>= λ ns. Ok (blueprint_given ns))
+    else if bytes_eq w (codes "solve") then solve_of ws else Err (bad_word_at 2)
 
 abbrev pub bound_of : List Bytes → Result Command LineFault
 bound_of ws = one_word ws >>= λ w. small_at 2 w >>= λ seat. Ok (bound seat)
@@ -65,13 +84,29 @@ abbrev pub propose_of : List Bytes → Result Command LineFault
 propose_of (s ∷ n ∷ r ∷ ws) = small_at 2 s >>= λ seat. small_at 3 n >>= λ node. rule_at 4 r >>= λ rule. smalls_at 5 ws >>= λ ns. Ok (propose seat node rule ns)
 propose_of ws = Err (bad_word_at (length ws + 2))
 
+abbrev pub resolve_of : List Bytes → Result Command LineFault
+resolve_of (s ∷ n ∷ r ∷ k ∷ ws) =
+    ends_behind 4 ws >>= λ x. small_at 2 s >>= λ seat. small_at 3 n >>= λ node. rule_at 4 r >>= λ rule. small_at 5 k >>= λ rounds. Ok (resolve seat node rule rounds)
+resolve_of ws = Err (bad_word_at (length ws + 2))
+
+abbrev pub cert_of : List Bytes → Result Command LineFault
+cert_of ws = one_word ws >>= λ w. small_at 2 w >>= λ seat. Ok (cert seat)
+
+abbrev pub deal_of : List Bytes → Result Command LineFault
+deal_of ws = draws_at 2 ws >>= λ ns. Ok (deal ns)
+
+abbrev pub play_of : List Bytes → Result Command LineFault
+play_of ws = one_word ws >>= λ w. number_at 2 1 65536 w >>= λ n. Ok (play n)
+
 -- a command by its words
 abbrev pub command_of : List Bytes → Result Command LineFault
 command_of [] = Err (bad_word_at 1)
 command_of (w ∷ ws) =
     if bytes_eq w (codes "expect") then expect_of ws else if bytes_eq w (codes "blueprint") then blueprint_of ws
     else if bytes_eq w (codes "bound") then bound_of ws else if bytes_eq w (codes "show") then show_of ws
-    else if bytes_eq w (codes "propose") then propose_of ws else Err (bad_word_at 1)
+    else if bytes_eq w (codes "propose") then propose_of ws else if bytes_eq w (codes "resolve") then resolve_of ws
+    else if bytes_eq w (codes "cert") then cert_of ws else if bytes_eq w (codes "deal") then deal_of ws
+    else if bytes_eq w (codes "play") then play_of ws else Err (bad_word_at 1)
 
 -- a command by the bytes of its line
 abbrev pub command_at : Bytes → Result Command LineFault

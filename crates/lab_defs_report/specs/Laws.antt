@@ -1,20 +1,12 @@
--- Laws of plain inputs.
-use Rattle.std.specs.Prelude.{◌≡◌, ℕ, ◌<◌, ◌≤◌, ◌++◌, length, true, false, Some, ◌↔◌}
+-- Laws of what the program writes.
+use Rattle.std.specs.Prelude.{◌≡◌, List, ◌++◌}
 use Rattle.lab_defs_text.specs.Words.{Bytes}
-use Rattle.lab_defs_text.specs.Games.{GameModel}
-use Rattle.lab_defs_report.specs.Plain.{IsPlainInput}
-use Rattle.lab_defs_report.specs.Sketch.{plain_input}
-use Rattle.lab_defs_report.specs.Reports.{longest_input, begins_plain}
+use Rattle.lab_defs_report.specs.Reports.{report_of, replies_of}
 
--- an input is found to be plain, with its game and its number of commands, exactly where it is
-abbrev pub PlainInputLaw : Type 0
-PlainInputLaw = (input : Bytes) (g : GameModel) (n : ℕ) → (plain_input input ≡ Some (g, n)) ↔ IsPlainInput input g n
+-- the first is the front of the second
+abbrev pub IsFront : Bytes → Bytes → Type 0
+IsFront front whole = (rest : Bytes) × (whole ≡ front ++ rest)
 
--- no plain input is longer than the longest, and none begins with more bytes
-abbrev pub LimitLaw : Type 0
-LimitLaw = ((input : Bytes) (g : GameModel) (n : ℕ) → IsPlainInput input g n → length input ≤ longest_input)
-    × ((bytes : Bytes) → longest_input < length bytes → begins_plain bytes ≡ false)
-
--- bytes begin a plain input exactly where further ones make it one
-abbrev pub BeginningLaw : Type 0
-BeginningLaw = (bytes : Bytes) → (begins_plain bytes ≡ true) ↔ ((rest : Bytes) × (p : GameModel × ℕ) × IsPlainInput (bytes ++ rest) p.0 p.1)
+-- what is written for the first bytes of an input stays, whatever follows them
+abbrev pub FrontLaw : Type 0
+FrontLaw = (ws : List Bytes) (bytes more : Bytes) → IsFront (replies_of ws bytes) (replies_of ws (bytes ++ more)) × IsFront (replies_of ws bytes) (report_of ws (bytes ++ more))

@@ -1,9 +1,10 @@
 pub mod Plain
-pub mod Sketch
 pub mod Reports
 pub mod Laws
 pub mod Commands
 pub mod States
 pub mod Refusals
+pub mod Answers
+pub mod Cuts
 pub mod Modes
 pub mod Headline

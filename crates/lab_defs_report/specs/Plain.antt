@@ -1,4 +1,4 @@
--- Plain games and plain inputs: those that this version of the program answers.
+-- Plain games: those that a session takes today.
 use Rattle.std.specs.Prelude.{◌≡◌, ℕ, zero, suc, List, [], ◌∷◌, ◌++◌, length, count_by, Bool, true, false, not, ◌&&◌, ◌==◌, nat_le, nat_lt}
 use Rattle.std.specs.List.{list_all}
 use lib.Chars.{codes}
@@ -20,24 +20,3 @@ plain_place g (an_end z) = true
 -- a game of one step: one world, whose joint actions each end at once
 abbrev pub is_plain : GameModel → Bool
 is_plain g = game_ok g && ((g.horizon == 1) && ((count_by is_world g.places == 1) && list_all (plain_place g) g.places))
-
--- the command that plain inputs have
-abbrev pub expect_uniform : Bytes
-expect_uniform = codes "expect uniform"
-
--- that command n times, each ended by a line feed
-abbrev pub commands : ℕ → Bytes
-commands zero = []
-commands (suc n) = expect_uniform ++ (10 ∷ commands n)
-
--- no line is longer than 1,048,576 bytes, the text than 16,777,216, the commands than 67,108,864
-abbrev pub within_limits : GameModel → ℕ → Bool
-within_limits g n =
-    list_all (λ l. nat_le (length l) 1048576) (lines (canonical g))
-    && (nat_le (length (canonical g)) 16777216 && nat_le (length (commands n)) 67108864)
-
--- the input is the text of a plain game with its rows in order, and then n times the command
-pub record IsPlainInput (input : Bytes) (g : GameModel) (n : ℕ) : Type 0 where
-  pub plain : is_plain g ≡ true
-  pub limits : within_limits g n ≡ true
-  pub text : input ≡ canonical g ++ commands n

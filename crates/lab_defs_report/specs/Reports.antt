@@ -1,60 +1,78 @@
--- What the program writes for its words and its input.
-use Rattle.std.specs.Prelude.{ℕ, zero, suc, ◌-◌, List, [], ◌∷◌, ◌++◌, length, Bool, false, ◌&&◌, ◌||◌, if◌then◌else◌, Option, Some, None, is_some, is_none}
-use Rattle.std.specs.List.{list_any, range_with_len}
+-- What the program answers today: the mode `print`, and the mode `session` on plain games with one command.
+use Rattle.std.specs.Prelude.{ℕ, ◌+◌, List, [], ◌∷◌, ◌++◌, length, Bool, true, false, ◌||◌, nat_lt, if◌then◌else◌, Option, Some, None, Result, Ok, Err}
+use Rattle.std.specs.List.{list_any, join_with_byte}
 use Rattle.std.specs.Str.{bytes_eq}
 use lib.Chars.{codes}
-use Rattle.lab_defs_text.specs.Words.{Bytes}
-use Rattle.lab_defs_text.specs.Fractions.{fraction_text}
+use Rattle.lab_defs_text.specs.Words.{Bytes, lines}
+use Rattle.lab_defs_text.specs.Lines.{joined}
 use Rattle.lab_defs_text.specs.Games.{GameModel}
-use Rattle.lab_defs_value.specs.Expectation.{expectation_of_uniform, expectation_units}
-use Rattle.lab_defs_report.specs.Sketch.{plain_input}
+use Rattle.lab_defs_report.specs.Plain.{is_plain}
+use Rattle.lab_defs_report.specs.Commands.{Command, expect_uniform, command_at}
+use Rattle.lab_defs_report.specs.States.{uniform_reply}
+use Rattle.lab_defs_report.specs.Refusals.{Refusal, refused, refused_in_line}
+use Rattle.lab_defs_report.specs.Cuts.{line_limit, commands_limit, Cut, cut_at, cut_refused, cut_open, cut_from}
+use Rattle.lab_defs_report.specs.Answers.{Answer, answer, silent, refusing, following}
+use Rattle.lab_defs_report.specs.Modes.{Mode, session, print, read_text, print_cut, last_answer, usage_line}
 
--- the words of the mode that answers commands
-abbrev pub is_session : List Bytes → Bool
-is_session (w ∷ []) = bytes_eq w (codes "session")
-is_session _ = false
+-- the modes that are built
+abbrev pub built_mode : List Bytes → Option Mode
+built_mode (w ∷ []) = if bytes_eq w (codes "session") then Some session else if bytes_eq w (codes "print") then Some print else None
+built_mode _ = None
 
--- what is written where the words are no mode
-abbrev pub usage_line : Bytes
-usage_line = codes "usage: lab session | check | print | verify | generate KIND SIZE | survey KIND SIZE" ++ (10 ∷ [])
+-- the refusal of what is not built
+abbrev pub not_built : ℕ → Refusal
+not_built line = refused line (codes "NotBuilt") []
 
--- what is written where the input is not plain
-abbrev pub refusal : Bytes
-refusal = codes "refused 0 NotBuilt" ++ (10 ∷ [])
+-- a game that a session takes: a plain one
+abbrev pub taken_at : ℕ → GameModel → Result GameModel Refusal
+taken_at line g = if is_plain g then Ok g else Err (not_built line)
 
--- the reply to `expect uniform`
-abbrev pub expect_reply : GameModel → Bytes
-expect_reply g = codes "expect " ++ (fraction_text (expectation_of_uniform g) (expectation_units g) ++ (10 ∷ []))
+-- the reply to a command, or its refusal
+abbrev pub reply_of : ℕ → GameModel → Command → Result Bytes Refusal
+reply_of n g expect_uniform = Ok (joined (uniform_reply g) ++ (10 ∷ []))
+reply_of n g _ = Err (not_built n)
 
-abbrev pub copies : ℕ → Bytes → Bytes
-copies zero line = []
-copies (suc n) line = line ++ copies n line
+-- the reply to a command line, or its refusal
+abbrev pub reply_at : ℕ → GameModel → Bytes → Result Bytes Refusal
+reply_at n g line = elim (command_at line) [ Ok c ↦ reply_of n g c | Err f ↦ Err (refused_in_line n f) ]
 
-abbrev pub answer_of : Option (GameModel × ℕ) → Bytes
-answer_of None = refusal
-answer_of (Some (g, n)) = copies n (expect_reply g)
+-- the replies to command lines from line n on, up to and with the first refusal
+abbrev pub replies_from : ℕ → GameModel → List Bytes → Answer
+replies_from n g [] = silent
+replies_from n g (l ∷ []) = last_answer true n l
+replies_from n g (l ∷ m ∷ ms) = elim (reply_at n g l) [ Ok out ↦ following out (replies_from (n + 1) g (m ∷ ms)) | Err r ↦ refusing r ]
 
--- what the program writes for an input that is read to its end
+-- whether what stands behind a game is too much, or has too long a line
+abbrev pub is_too_long : List Bytes → Bool
+is_too_long behind = nat_lt commands_limit (length (join_with_byte 10 behind)) || list_any (λ l. nat_lt line_limit (length l)) behind
+
+-- the commands behind a game are read to the end before the first of them is answered
+abbrev pub commands_answer : Bool → ℕ → GameModel → List Bytes → Answer
+commands_answer ended n g behind = if is_too_long behind then refusing (not_built 0) else if ended then replies_from n g behind else silent
+
+-- the game of a text that a session takes, or its refusal
+abbrev pub taken_game : Bytes → ℕ → Result GameModel Refusal
+taken_game text line = elim (read_text text) [ Ok g ↦ taken_at line g | Err r ↦ Err r ]
+
+abbrev pub session_answer : Bool → Cut → Answer
+session_answer ended (cut_at text line behind) = elim (taken_game text line) [ Ok g ↦ commands_answer ended (line + 1) g behind | Err r ↦ refusing r ]
+session_answer ended (cut_refused r) = refusing r
+session_answer ended cut_open = silent
+
+-- what is written for an input, read to its end or not
+abbrev pub built_answer : Bool → Bytes → Option Mode → Answer
+built_answer ended input (Some session) = session_answer ended (cut_from ended 1 [] (lines input))
+built_answer ended input (Some print) = print_cut ended (cut_from ended 1 [] (lines input))
+built_answer ended input _ = answer usage_line
+
+-- what the program writes for its words and an input that is read to its end
 abbrev pub report_of : List Bytes → Bytes → Bytes
-report_of ws input = if is_session ws then answer_of (plain_input input) else usage_line
+report_of ws input = (built_answer true input (built_mode ws)).out
 
 -- whether the report ends with a refusal
 abbrev pub is_refused : List Bytes → Bytes → Bool
-is_refused ws input = is_session ws && is_none (plain_input input)
+is_refused ws input = (built_answer true input (built_mode ws)).refuses
 
--- whether at most n further bytes make a plain input of these
-abbrev pub can_become_plain : ℕ → Bytes → Bool
-can_become_plain zero bytes = is_some (plain_input bytes)
-can_become_plain (suc n) bytes = is_some (plain_input bytes) || list_any (λ c. can_become_plain n (bytes ++ c ∷ [])) (range_with_len 0 256)
-
--- the most bytes that a plain input has
-abbrev pub longest_input : ℕ
-longest_input = 83886080
-
--- whether some plain input begins with these bytes
-unfoldable pub begins_plain : Bytes → Bool
-begins_plain bytes = can_become_plain (longest_input - length bytes) bytes
-
--- what the program writes for the first bytes of an input, whatever follows: a refusal where no plain input begins so
+-- what the program writes for the first bytes of an input, whatever follows them
 abbrev pub replies_of : List Bytes → Bytes → Bytes
-replies_of ws bytes = if is_session ws then (if begins_plain bytes then [] else refusal) else usage_line
+replies_of ws bytes = (built_answer false bytes (built_mode ws)).out

@@ -212,3 +212,4 @@ step_of s (propose seat node rule ws) =
     let q : Proposal = record { seat = seat; node = node; rule = rule; weights = ws } in
     some_plays s >>= λ p. good_seat seat >>= λ x. good_node s.game node >>= λ y. decides_there s.game q >>= λ z. good_weights s.game q >>= λ w.
     let r = propose_to s.game p q in playing s r.0 r.1
+step_of s c = Err no_blueprint

@@ -1,19 +1,8 @@
-//! Laws of plain inputs.
+//! Laws of what the program writes.
 
-ghost use Rattle.lab_defs_report.specs.Laws.{PlainInputLaw, LimitLaw, BeginningLaw};
+ghost use Rattle.lab_defs_report.specs.Laws.{FrontLaw};
 
-/// An input is found to be plain exactly where it is the canonical text of a plain game with
-/// commands behind it.
-pub fn plain_inputs()
-    ensures { PlainInputLaw }
-{}
-
-/// How long a plain input is at most, in bytes.
-pub fn limits()
-    ensures { LimitLaw }
-{}
-
-/// The search over further bytes finds a plain input exactly where there is one.
-pub fn beginnings()
-    ensures { BeginningLaw }
+/// What is written for the first bytes of an input is the front of what is written for more of them.
+pub fn fronts()
+    ensures { FrontLaw }
 {}

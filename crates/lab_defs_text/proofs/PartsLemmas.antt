@@ -1,17 +1,22 @@
 -- A text that is read is the text of its parts.
-use Rattle.std.proofs.Common.{◌≡◌, ℕ, ◌+◌, true, cond, List, [], ◌∷◌, ◌++◌, Result, Ok, Err, refl, sym, ap, subst, ◌∙◌, append_assoc, inl, inr}
+use Rattle.std.proofs.Common.{◌≡◌, ℕ, ◌+◌, true, cond, List, [], ◌∷◌, ◌++◌, length, map, Result, Ok, Err, refl, sym, ap, subst, ◌∙◌, append_assoc, inl, inr}
+use Rattle.std.specs.Prelude.{◌&&◌, nat_lt}
+use Rattle.std.specs.List.{list_all}
 use Rattle.std.specs.List.{join_with_byte}
-use Rattle.std.proofs.lemmas.Bool.{cases_Bool}
+use Rattle.std.proofs.lemmas.Bool.{cases_Bool, and_from}
+use Rattle.std.proofs.lemmas.List.{length-map}
 use Rattle.std.proofs.lemmas.List.Splits.{join_with_byte-slice_split}
 use Rattle.lab_defs_text.specs.Faults.{LineFault}
 use Rattle.lab_defs_text.specs.Steps.{◌>>=◌}
-use Rattle.lab_defs_text.specs.Words.{Bytes, lines}
+use Rattle.lab_defs_text.specs.Words.{Bytes, lines, are_names}
 use Rattle.lab_defs_text.specs.Lines.{Line, bytes_of, text_of}
 use Rattle.lab_defs_text.specs.Reading.{Kind, start_kind, done_kind, kind_of, line_at}
-use Rattle.lab_defs_text.specs.Drafts.{Draft, with_line, on_line, empty, is_done, at_done, cut, read_from, parts_of}
+use Rattle.lab_defs_text.specs.Texts.{is_within}
+use Rattle.lab_defs_text.specs.Parts.{part_ok, parts_ok}
+use Rattle.lab_defs_text.specs.Drafts.{Draft, place_name, with_line, on_line, empty, is_done, at_done, cut, read_from, parts_of}
 use Rattle.lab_defs_text.proofs.StepLemmas.{bind_ok, ok_is, first_chosen, second_chosen}
 use Rattle.lab_defs_text.proofs.ReadingLemmas.{line_read}
-use Rattle.lab_defs_text.proofs.SoFarLemmas.{so_far, IsDraft, GoesOn, goes_on}
+use Rattle.lab_defs_text.proofs.SoFarLemmas.{apart_names, so_far, IsDraft, GoesOn, goes_on}
 
 -- bytes are the text of lines, which lead from some parts to others
 record ReadsTo (k : Kind) (d e : Draft) (bytes : Bytes) : Type 0 where
@@ -89,3 +94,15 @@ pub parts_sound : (b : Bytes) (e : Draft) → parts_of b ≡ Ok e → IsTextOf b
 parts_sound b e q =
     let r = read_sound 1 start_kind empty e (lines b) (refl, refl) q in
     record { draft = r.draft; text = sym (join_with_byte-slice_split 10 b) ∙ r.text ∙ ap text_of (sym r.parts) }
+
+-- the parts of a text that is read are in order
+pub parts_fit : (b : Bytes) (e : Draft) → parts_of b ≡ Ok e → parts_ok e ≡ true
+parts_fit b e q =
+    let d = (parts_sound b e q).draft in
+    let c = d.0 in
+    let names = map place_name e.places in
+    and_from (is_within 1 4096 e.grid) (is_within 1 32 e.horizon && (are_names e.tokens && (are_names names && list_all part_ok e.places))) c.front_fine.grid_fine
+    (and_from (is_within 1 32 e.horizon) (are_names e.tokens && (are_names names && list_all part_ok e.places)) c.front_fine.horizon_fine
+    (and_from (are_names e.tokens) (are_names names && list_all part_ok e.places) c.front_fine.tokens_fine
+    (and_from (are_names names) (list_all part_ok e.places)
+    (and_from (nat_lt 0 (length names)) (apart_names names) (ap (λ n. nat_lt 0 n) (length-map e.places place_name) ∙ d.1) c.names) c.places)))

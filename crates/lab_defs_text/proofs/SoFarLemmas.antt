@@ -11,6 +11,7 @@ use Rattle.lab_defs_text.specs.Lines.{Line, head_line, grid_line, horizon_line, 
 use Rattle.lab_defs_text.specs.Texts.{token_lines, is_within, is_payoff}
 use Rattle.lab_defs_text.specs.Reading.{Kind, start_kind, head_kind, grid_kind, horizon_kind, memory_kind, token_kind, world_kind, one_kind, two_kind, row_kind, to_kind, end_kind, root_kind, done_kind, kind_of}
 use Rattle.lab_defs_text.specs.Drafts.{Draft, PartPlace, part_world, part_end, PartWorld, PartRow, PartOutcome, place_name, with_rows, with_outcomes, whole_places, whole_rows, cleared_world, cleared_row, first_twice, unless_twice, unless_repeated, with_line}
+use Rattle.lab_defs_text.specs.Parts.{part_outcome_ok, part_row_ok, part_ok}
 use Rattle.lab_defs_text.proofs.StepLemmas.{ok_is, ok_carries, passed}
 use Rattle.lab_defs_text.proofs.ReadingLemmas.{is_line, may_follow}
 
@@ -66,19 +67,6 @@ so_far root_kind d = behind d (root_line d.root ∷ [])
 so_far done_kind d = behind d (root_line d.root ∷ done_line ∷ [])
 
 -- ---- what holds of the parts
-
--- the weight of an outcome
-abbrev pub part_outcome_ok : PartOutcome → Bool
-part_outcome_ok o = is_within 1 1048576 o.weight
-
--- a row has an outcome
-abbrev pub part_row_ok : PartRow → Bool
-part_row_ok r = nat_lt 0 (length r.outcomes) && list_all part_outcome_ok r.outcomes
-
--- the actions of a world, its rows, and the payoff of an end
-abbrev pub part_ok : PartPlace → Bool
-part_ok (part_world w) = are_names w.one && (are_names w.two && list_all part_row_ok w.rows)
-part_ok (part_end n line z) = is_payoff z
 
 -- names, none twice
 abbrev pub apart_names : List Bytes → Bool

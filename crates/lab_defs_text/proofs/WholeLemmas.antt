@@ -19,7 +19,8 @@ use Rattle.lab_defs_text.specs.Drafts.{Draft, PartPlace, part_world, part_end, P
 use Rattle.lab_defs_text.specs.Assembly.{or_fault, number_of, known, known_outcome, KnownRow, KnownPlace, known_world, known_end, known_row, known_place, PlacedRow, taken, unless_taken, action_of, place_rows, PlacedPlace, placed_world, placed_end, placed, row_of, row_at, ordered, is_world_at, assembled}
 use Rattle.lab_defs_text.proofs.StepLemmas.{bind_ok, passed, ok_is, ok_carries, ok_carried, some_is}
 use Rattle.lab_defs_text.proofs.SplitLemmas.{bytes_eq_is}
-use Rattle.lab_defs_text.proofs.SoFarLemmas.{outcomes_lines, rows_lines, part_lines, parts_lines, part_ok, part_row_ok, part_outcome_ok, apart_names, front, so_far, IsDraft}
+use Rattle.lab_defs_text.specs.Parts.{part_ok, part_row_ok, part_outcome_ok}
+use Rattle.lab_defs_text.proofs.SoFarLemmas.{outcomes_lines, rows_lines, part_lines, parts_lines, apart_names, front, so_far, IsDraft}
 
 -- ---- names
 

@@ -6,8 +6,10 @@ pub mod Lines
 pub mod Texts
 pub mod Faults
 pub mod Steps
+pub mod Agreement
 pub mod Reading
 pub mod Drafts
+pub mod Parts
 pub mod Assembly
 pub mod Readings
 pub mod Laws

@@ -1,3 +1,4 @@
 pub mod Models
 pub mod Wholes
 pub mod Games
+pub mod Drafts

@@ -1,8 +1,11 @@
-//! A game as the program has it.
+//! A game as the program has it, and how it is made of its parts.
 #![tactic(auto)]
 
+mod assemble;
 mod game;
+mod parts;
 mod place;
 
 pub use game::Game;
+pub use parts::{AssembleFault, PartOutcome, PartPlace, PartRow, Parts};
 pub use place::{ActionId, Outcome, Place, Recall, Row, TokenId, World, WorldId};

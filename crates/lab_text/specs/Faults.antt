@@ -1,0 +1,18 @@
+-- The faults of a text as the definitions have them.
+use Rattle.std.specs.Prelude.{Option, Some, None}
+use Rattle.lab_defs_text.specs.Faults as fault
+use Rattle.lab_lex.specs.Faults.{lex_model}
+use Rattle.lab_world.specs.Drafts.{assemble_fault}
+use Rattle.lab_text.specs.declared.fault.TextFault.{TextFault}
+use Rattle.lab_text.specs.declared.fault.TextFault.TheVariants as text
+
+-- the fault that the definitions have, none for want of memory
+abbrev pub text_fault : TextFault → Option fault.TextFault
+text_fault (text.CutShort line) = Some (fault.cut_short line)
+text_fault (text.NoNewline line) = Some (fault.no_newline line)
+text_fault (text.ExtraLine line) = Some (fault.extra_line line)
+text_fault (text.Lex line f) = Some (fault.in_line line (fault.lexical (lex_model f)))
+text_fault (text.BadWord line place) = Some (fault.in_line line (fault.bad_word_at place))
+text_fault (text.Twice line place) = Some (fault.in_line line (fault.twice_at place))
+text_fault (text.Assemble f) = assemble_fault f
+text_fault text.Memory = None

