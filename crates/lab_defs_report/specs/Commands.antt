@@ -20,7 +20,7 @@ pub data Command : Type 0 where
   resolve : (seat node : ℕ) (rule : Rule) (rounds : ℕ) → Command
   cert : (seat : ℕ) → Command
   deal : (draws : List ℕ) → Command
-  play : (rounds : ℕ) → Command
+  play : (rounds seed : ℕ) → Command
 
 -- the word of a rule
 abbrev pub rule_word : Rule → Bytes
@@ -95,19 +95,20 @@ cert_of ws = one_word ws >>= λ w. small_at 2 w >>= λ seat. Ok (cert seat)
 abbrev pub deal_of : List Bytes → Result Command LineFault
 deal_of ws = draws_at 2 ws >>= λ ns. Ok (deal ns)
 
-abbrev pub play_of : List Bytes → Result Command LineFault
-play_of ws = one_word ws >>= λ w. number_at 2 1 65536 w >>= λ n. Ok (play n)
+-- the number of its line is the seed
+abbrev pub play_of : ℕ → List Bytes → Result Command LineFault
+play_of number ws = one_word ws >>= λ w. number_at 2 1 65536 w >>= λ n. Ok (play n number)
 
--- a command by its words
-abbrev pub command_of : List Bytes → Result Command LineFault
-command_of [] = Err (bad_word_at 1)
-command_of (w ∷ ws) =
+-- a command by its words, on the command line with a number
+abbrev pub command_of : ℕ → List Bytes → Result Command LineFault
+command_of number [] = Err (bad_word_at 1)
+command_of number (w ∷ ws) =
     if bytes_eq w (codes "expect") then expect_of ws else if bytes_eq w (codes "blueprint") then blueprint_of ws
     else if bytes_eq w (codes "bound") then bound_of ws else if bytes_eq w (codes "show") then show_of ws
     else if bytes_eq w (codes "propose") then propose_of ws else if bytes_eq w (codes "resolve") then resolve_of ws
     else if bytes_eq w (codes "cert") then cert_of ws else if bytes_eq w (codes "deal") then deal_of ws
-    else if bytes_eq w (codes "play") then play_of ws else Err (bad_word_at 1)
+    else if bytes_eq w (codes "play") then play_of number ws else Err (bad_word_at 1)
 
--- a command by the bytes of its line
-abbrev pub command_at : Bytes → Result Command LineFault
-command_at line = if first_empty 1 (words line) == 0 then command_of (words line) else Err (lexical (bad_space_at (first_empty 1 (words line))))
+-- a command by the bytes of its line; command lines count from 1
+abbrev pub command_at : ℕ → Bytes → Result Command LineFault
+command_at number line = if first_empty 1 (words line) == 0 then command_of number (words line) else Err (lexical (bad_space_at (first_empty 1 (words line))))

@@ -3,6 +3,10 @@ pub mod Reports
 pub mod Laws
 pub mod Commands
 pub mod States
+pub mod Walks
+pub mod Certificates
+pub mod Plans
+pub mod Kinds
 pub mod Refusals
 pub mod Answers
 pub mod Cuts
