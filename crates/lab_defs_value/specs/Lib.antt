@@ -10,3 +10,7 @@ pub mod Splices
 pub mod Passes
 pub mod Laws
 pub mod WholeLaws
+pub mod Subgames
+pub mod Gadgets
+pub mod Matching
+pub mod Candidates
