@@ -10,7 +10,8 @@ use Rattle.lab_defs_text.specs.Faults.{LexFault, bad_space_at, bad_name_at, bad_
 use Rattle.lab_defs_game.specs.Histories.{histories, reached}
 use Rattle.lab_defs_game.specs.Unfolding.{UnfoldFault, too_many_histories, horizon_passed, size_passed}
 use Rattle.lab_defs_game.specs.Recall.{RecallFault, legal_differs, forgotten}
-use Rattle.lab_defs_report.specs.States.{SessionFault, no_blueprint, second_blueprint, bad_seat, no_node, no_decision, wrong_count, wrong_sum}
+use Rattle.lab_defs_report.specs.States.{SessionFault, no_blueprint, second_blueprint, bad_seat, no_node, no_decision, bad_rounds, wrong_count, wrong_sum, few_words, extra_words}
+use Rattle.lab_defs_report.specs.CertificateTexts.{CertificateFault, bad_json, bad_shape}
 
 -- a refusal: its line, its code and the further words
 pub record Refusal : Type 0 where
@@ -81,5 +82,14 @@ refused_command line second_blueprint = refused line (codes "SecondBlueprint") [
 refused_command line bad_seat = refused line (codes "BadSeat") []
 refused_command line (no_node count) = refused line (codes "NoNode") (numeral count ∷ [])
 refused_command line no_decision = refused line (codes "NoDecision") []
+refused_command line bad_rounds = refused line (codes "BadRounds") []
 refused_command line (wrong_count needed given) = refused line (codes "WrongCount") (numeral needed ∷ numeral given ∷ [])
 refused_command line (wrong_sum seat set) = refused line (codes "WrongSum") (numeral seat ∷ numeral set ∷ [])
+refused_command line (few_words needed) = refused line (codes "FewWords") (numeral needed ∷ [])
+refused_command line (extra_words used) = refused line (codes "ExtraWords") (numeral used ∷ [])
+
+-- ---- of a certificate
+
+abbrev pub refused_certificate : ℕ → CertificateFault → Refusal
+refused_certificate line bad_json = refused line (codes "BadJson") []
+refused_certificate line (bad_shape key) = refused line (codes "BadShape") (key ∷ [])

@@ -12,7 +12,9 @@ use Rattle.lab_defs_report.specs.States.{uniform_reply}
 use Rattle.lab_defs_report.specs.Refusals.{Refusal, refused, refused_in_line}
 use Rattle.lab_defs_report.specs.Cuts.{line_limit, commands_limit, Cut, cut_at, cut_refused, cut_open, cut_from}
 use Rattle.lab_defs_report.specs.Answers.{Answer, answer, silent, refusing, following}
-use Rattle.lab_defs_report.specs.Modes.{Mode, session, print, read_text, print_cut, last_answer, usage_line}
+use Rattle.lab_defs_report.specs.GameModes.{read_text, print_cut}
+use Rattle.lab_defs_report.specs.Sessions.{last_answer}
+use Rattle.lab_defs_report.specs.Modes.{Mode, session, print, cut, usage_line}
 
 -- the modes that are built
 abbrev pub built_mode : List Bytes → Option Mode
@@ -32,37 +34,38 @@ abbrev pub reply_of : ℕ → GameModel → Command → Result Bytes Refusal
 reply_of n g expect_uniform = Ok (joined (uniform_reply g) ++ (10 ∷ []))
 reply_of n g _ = Err (not_built n)
 
--- the reply to a command line, or its refusal
-abbrev pub reply_at : ℕ → GameModel → Bytes → Result Bytes Refusal
-reply_at n g line = elim (command_at line) [ Ok c ↦ reply_of n g c | Err f ↦ Err (refused_in_line n f) ]
+-- the reply to the command line with a number, on line n of the input; or its refusal
+abbrev pub reply_at : (n number : ℕ) → GameModel → Bytes → Result Bytes Refusal
+reply_at n number g line = elim (command_at number line) [ Ok c ↦ reply_of n g c | Err f ↦ Err (refused_in_line n f) ]
 
--- the replies to command lines from line n on, up to and with the first refusal
-abbrev pub replies_from : ℕ → GameModel → List Bytes → Answer
-replies_from n g [] = silent
-replies_from n g (l ∷ []) = last_answer true n l
-replies_from n g (l ∷ m ∷ ms) = elim (reply_at n g l) [ Ok out ↦ following out (replies_from (n + 1) g (m ∷ ms)) | Err r ↦ refusing r ]
+-- the replies to command lines behind the line of `done`, from the one with a number on, up to and with the first refusal
+abbrev pub replies_from : (done number : ℕ) → GameModel → List Bytes → Answer
+replies_from done number g [] = silent
+replies_from done number g (l ∷ []) = last_answer true (done + number) l
+replies_from done number g (l ∷ m ∷ ms) =
+    elim (reply_at (done + number) number g l) [ Ok out ↦ following out (replies_from done (number + 1) g (m ∷ ms)) | Err r ↦ refusing r ]
 
 -- whether what stands behind a game is too much, or has too long a line
 abbrev pub is_too_long : List Bytes → Bool
 is_too_long behind = nat_lt commands_limit (length (join_with_byte 10 behind)) || list_any (λ l. nat_lt line_limit (length l)) behind
 
 -- the commands behind a game are read to the end before the first of them is answered
-abbrev pub commands_answer : Bool → ℕ → GameModel → List Bytes → Answer
-commands_answer ended n g behind = if is_too_long behind then refusing (not_built 0) else if ended then replies_from n g behind else silent
+abbrev pub commands_answer : Bool → (done : ℕ) → GameModel → List Bytes → Answer
+commands_answer ended done g behind = if is_too_long behind then refusing (not_built 0) else if ended then replies_from done 1 g behind else silent
 
 -- the game of a text that a session takes, or its refusal
 abbrev pub taken_game : Bytes → ℕ → Result GameModel Refusal
 taken_game text line = elim (read_text text) [ Ok g ↦ taken_at line g | Err r ↦ Err r ]
 
 abbrev pub session_answer : Bool → Cut → Answer
-session_answer ended (cut_at text line behind) = elim (taken_game text line) [ Ok g ↦ commands_answer ended (line + 1) g behind | Err r ↦ refusing r ]
+session_answer ended (cut_at text line behind) = elim (taken_game text line) [ Ok g ↦ commands_answer ended line g behind | Err r ↦ refusing r ]
 session_answer ended (cut_refused r) = refusing r
 session_answer ended cut_open = silent
 
 -- what is written for an input, read to its end or not
 abbrev pub built_answer : Bool → Bytes → Option Mode → Answer
-built_answer ended input (Some session) = session_answer ended (cut_from ended 1 [] (lines input))
-built_answer ended input (Some print) = print_cut ended (cut_from ended 1 [] (lines input))
+built_answer ended input (Some session) = session_answer ended (cut ended input)
+built_answer ended input (Some print) = print_cut ended (cut ended input)
 built_answer ended input _ = answer usage_line
 
 -- what the program writes for its words and an input that is read to its end

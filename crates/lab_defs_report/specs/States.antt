@@ -3,10 +3,12 @@ use Rattle.std.specs.Prelude.{ℕ, ◌+◌, ℤ, List, [], ◌∷◌, length, ma
 use Rattle.std.specs.List.{range_with_len}
 use lib.Chars.{codes}
 use Rattle.lab_defs_text.specs.Words.{Bytes}
-use Rattle.lab_defs_text.specs.Numbers.{numeral}
+use Rattle.lab_defs_text.specs.Numbers.{numeral, signed_numeral}
 use Rattle.lab_defs_text.specs.Fractions.{fraction_text}
 use Rattle.lab_defs_text.specs.Games.{GameModel}
 use Rattle.lab_defs_text.specs.Steps.{◌>>=◌}
+use Rattle.lab_defs_text.specs.Texts.{name_of, place_at}
+use Rattle.lab_defs_game.specs.Histories.{History, outcome_of, payoff}
 use Rattle.lab_defs_game.specs.Sets.{sets}
 use Rattle.lab_defs_game.specs.Nodes.{nodes}
 use Rattle.lab_defs_game.specs.Forms.{form_of, game_actions}
@@ -18,7 +20,10 @@ use Rattle.lab_defs_value.specs.Bounds.{at, bound_units}
 use Rattle.lab_defs_value.specs.Allowances.{Rule, allowance, path_sets, node_sets}
 use Rattle.lab_defs_value.specs.Splices.{subgame_sets, replaced}
 use Rattle.lab_defs_value.specs.Passes.{excess, least_margin, first_above}
-use Rattle.lab_defs_report.specs.Commands.{Command, expect_uniform, expect, blueprint_uniform, blueprint_given, bound, show, propose, rule_word}
+use Rattle.lab_defs_value.specs.Candidates.{candidate, solved_tables}
+use Rattle.lab_defs_report.specs.Commands.{Command, expect_uniform, expect, blueprint_uniform, blueprint_given, blueprint_solve, bound, show, propose, resolve, cert, deal, play, rule_word}
+use Rattle.lab_defs_report.specs.Walks.{Words, walk, rounds_pay, pcg64_stream, action_names_at}
+use Rattle.lab_defs_report.specs.CertificateTexts.{Certificate, certificate_text}
 
 -- the tables of both seats, and the bounds of each seat: numbers at the sets of its opponent
 pub record Plays : Type 0 where
@@ -39,8 +44,11 @@ pub data SessionFault : Type 0 where
   bad_seat : SessionFault
   no_node : (count : ℕ) → SessionFault
   no_decision : SessionFault
+  bad_rounds : SessionFault
   wrong_count : (needed given : ℕ) → SessionFault
   wrong_sum : (seat set : ℕ) → SessionFault
+  few_words : (needed : ℕ) → SessionFault
+  extra_words : (used : ℕ) → SessionFault
 
 -- ---- tables and bounds
 
@@ -111,6 +119,10 @@ expect_reply g p = codes "expect" ∷ fraction_text (expectation (grid_of g 1) (
 abbrev pub bound_reply : GameModel → Plays → ℕ → List Bytes
 bound_reply g p seat = codes "bound" ∷ numeral seat ∷ seat_bound g p seat ∷ []
 
+-- the certificate of a seat, as the one word of its reply
+abbrev pub cert_reply : Plays → ℕ → List Bytes
+cert_reply p seat = certificate_text (record { seat = seat; weights = table_of p seat; bounds = bounds_of p seat }) ∷ []
+
 abbrev pub show_reply : Plays → ℕ → List Bytes
 show_reply p seat = codes "show" ∷ numeral seat ∷ map numeral (table_of p seat)
 
@@ -162,6 +174,14 @@ verdict g p q None =
 abbrev pub propose_to : GameModel → Plays → Proposal → Plays × List Bytes
 propose_to g p q = verdict g p q (first_above (strategy_of g q.seat (proposed_table g p q)) (at (bounds_of p q.seat)) (allowances g p q) (root_sets g q))
 
+-- what some rounds of regret matching on the gadget propose
+abbrev pub candidate_of : GameModel → Plays → Proposal → (rounds : ℕ) → List ℕ
+candidate_of g p q rounds = candidate g q.rule q.seat (node_list g q) (table_of p q.seat) (bounds_of p q.seat) rounds
+
+-- a proposal with these weights
+abbrev pub with_weights : Proposal → List ℕ → Proposal
+with_weights q weights = record { seat = q.seat; node = q.node; rule = q.rule; weights = weights }
+
 -- ---- refusals of the session
 
 abbrev pub some_plays : State → Result Plays SessionFault
@@ -192,6 +212,28 @@ good_weights g q =
     counted (inside_count g q) (length q.weights) true >>= λ x.
     unless_wrong q.seat (first_wrong_sum (grid_of g q.seat) (slice_index (subgame_sets g q.seat (node_list g q)) 0) (inside_actions g q) q.weights) true
 
+-- a number of rounds of regret matching
+abbrev pub good_rounds : ℕ → Result Bool SessionFault
+good_rounds rounds = if nat_le 1 rounds && nat_le rounds 4096 then Ok true else Err bad_rounds
+
+-- ---- walks
+
+-- the words of what happens along steps from the place n: each seat's action, and where it leads
+abbrev pub step_words : GameModel → ℕ → History → List Bytes
+step_words g n [] = []
+step_words g n (s ∷ h) =
+    let next = (outcome_of g n s).next in
+    name_of (action_names_at 1 (place_at g n)) s.action1 ∷ name_of (action_names_at 2 (place_at g n)) s.action2 ∷ name_of g.names next ∷ step_words g next h
+
+-- a walk that uses all its words
+abbrev pub dealt : GameModel → Result (History × Words) ℕ → Result (List Bytes) SessionFault
+dealt g (Err needed) = Err (few_words needed)
+dealt g (Ok r) =
+    if length r.1.left == 0 then Ok (codes "deal" ∷ signed_numeral (payoff g r.0) ∷ step_words g g.root r.0) else Err (extra_words r.1.used)
+
+abbrev pub play_reply : GameModel → Plays → (rounds seed : ℕ) → List Bytes
+play_reply g p rounds seed = codes "play" ∷ numeral rounds ∷ signed_numeral (rounds_pay rounds g p.table1 p.table2 (pcg64_stream seed)) ∷ []
+
 -- ---- a step
 
 abbrev pub kept : State → List Bytes → Result (State × List Bytes) SessionFault
@@ -206,10 +248,18 @@ step_of s expect_uniform = kept s (uniform_reply s.game)
 step_of s expect = some_plays s >>= λ p. kept s (expect_reply s.game p)
 step_of s blueprint_uniform = no_plays s >>= λ x. let p = plays_of s.game (uniform_of s.game 1) (uniform_of s.game 2) in playing s p (blueprint_reply s.game p)
 step_of s (blueprint_given ws) = no_plays s >>= λ x. given_tables s.game ws >>= λ p. playing s p (blueprint_reply s.game p)
+step_of s (blueprint_solve rounds) =
+    no_plays s >>= λ x. good_rounds rounds >>= λ y. let ts = solved_tables s.game rounds in let p = plays_of s.game ts.0 ts.1 in playing s p (blueprint_reply s.game p)
 step_of s (bound seat) = some_plays s >>= λ p. good_seat seat >>= λ x. kept s (bound_reply s.game p seat)
 step_of s (show seat) = some_plays s >>= λ p. good_seat seat >>= λ x. kept s (show_reply p seat)
 step_of s (propose seat node rule ws) =
     let q : Proposal = record { seat = seat; node = node; rule = rule; weights = ws } in
     some_plays s >>= λ p. good_seat seat >>= λ x. good_node s.game node >>= λ y. decides_there s.game q >>= λ z. good_weights s.game q >>= λ w.
     let r = propose_to s.game p q in playing s r.0 r.1
-step_of s c = Err no_blueprint
+step_of s (resolve seat node rule rounds) =
+    let q : Proposal = record { seat = seat; node = node; rule = rule; weights = [] } in
+    some_plays s >>= λ p. good_seat seat >>= λ x. good_node s.game node >>= λ y. decides_there s.game q >>= λ z. good_rounds rounds >>= λ w.
+    let r = propose_to s.game p (with_weights q (candidate_of s.game p q rounds)) in playing s r.0 r.1
+step_of s (cert seat) = some_plays s >>= λ p. good_seat seat >>= λ x. kept s (cert_reply p seat)
+step_of s (deal words) = some_plays s >>= λ p. dealt s.game (walk s.game p.table1 p.table2 words) >>= λ reply. kept s reply
+step_of s (play rounds seed) = some_plays s >>= λ p. kept s (play_reply s.game p rounds seed)

@@ -1,11 +1,12 @@
 -- Walks through a game, by words of 64 bits that are drawn with.
-use Rattle.std.specs.Prelude.{ℕ, zero, suc, ◌+◌, ◌-◌, ◌*◌, ◌/◌, ◌^◌, ℤ, pos, ◌+ℤ◌, List, [], ◌∷◌, ◌++◌, length, map, take, drop, slice_index, nat_le, nat_lt, if◌then◌else◌, Result, Ok, Err}
+use Rattle.std.specs.Prelude.{ℕ, zero, suc, ◌==◌, ◌+◌, ◌-◌, ◌*◌, ◌/◌, ◌^◌, ℤ, pos, ◌+ℤ◌, List, [], ◌∷◌, ◌++◌, length, map, take, drop, slice_index, nat_le, nat_lt, if◌then◌else◌, Result, Ok, Err}
 use Rattle.rand_core.specs.Stream.{Stream, next_u64}
 use Rattle.rand_core.specs.Steps.{stream_of, steps_u64_low}
 use Rattle.rand_core.specs.Pcg32Seed.{pcg32_seed}
 use Rattle.rand_pcg.specs.Pcg.{pcg64, pcg64_of_seed}
 use Rattle.lab_math.specs.Sums.{sum_over}
-use Rattle.lab_defs_text.specs.Games.{GameModel}
+use Rattle.lab_defs_text.specs.Games.{GameModel, Place, a_world, an_end}
+use Rattle.lab_defs_text.specs.Words.{Bytes}
 use Rattle.lab_defs_text.specs.Texts.{is_world}
 use Rattle.lab_defs_text.specs.Steps.{◌>>=◌}
 use Rattle.lab_defs_game.specs.Histories.{Step, History, row_of, place_of, payoff}
@@ -47,6 +48,11 @@ weights_at actions table set = if decides actions set then take (slice_index act
 -- the weights of a seat's actions where a history stands
 abbrev pub weights_on : GameModel → ℕ → List ℕ → History → List ℕ
 weights_on g seat table h = weights_at (game_actions g seat) table (set_number g seat (seen g seat h))
+
+-- the names of a seat's actions at a place
+abbrev pub action_names_at : ℕ → Place → List Bytes
+action_names_at seat (a_world w) = if seat == 1 then w.one else w.two
+action_names_at seat (an_end z) = []
 
 -- one step: seat 1 draws, then seat 2, then chance
 abbrev pub walked_on : GameModel → (table1 table2 : List ℕ) → History → Words → Result (History × Words) ℕ

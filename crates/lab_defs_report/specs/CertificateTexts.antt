@@ -1,0 +1,100 @@
+-- Certificates as texts: a table and bounds in JSON.
+use Rattle.std.specs.Prelude.{◌≡◌, ℕ, ◌+◌, ◌^◌, ◌==◌, ◌&&◌, ◌||◌, ℤ, ◌-ℤ◌, int_le, List, [], ◌∷◌, ◌++◌, length, map, nat_le, nat_lt, slice_index, slice_index_or, Bool, true, false, if◌then◌else◌, Option, Some, None, option_map, option_and_then, Result, Ok, Err}
+use Rattle.std.specs.List.{join_with_byte, range_with_len, find}
+use Rattle.std.specs.Str.{bytes_eq, all_scalars, encode_utf8_all, chars}
+use Rattle.std.specs.Ordering.{is_eq}
+use lib.Chars.{codes}
+use Rattle.serde_json.specs.Data.{Data, Items, no_items, item, Members, no_members, member}
+use Rattle.serde_json.specs.Find.{get, as_u64, as_number, as_str, as_array, as_object}
+use Rattle.serde_json.specs.Read.{read}
+use Rattle.lab_defs_text.specs.Words.{Bytes}
+use Rattle.lab_defs_text.specs.Numbers.{numeral, signed_numeral, is_whole, whole_value, whole_size}
+use Rattle.lab_defs_text.specs.Steps.{◌>>=◌}
+use Rattle.lab_defs_text.specs.Games.{GameModel, Place, a_world, an_end}
+use Rattle.lab_defs_text.specs.Texts.{name_of}
+use Rattle.lab_defs_game.specs.Histories.{place_of, inner_histories}
+use Rattle.lab_defs_game.specs.Sets.{Item, seen, set_cmp, sets}
+use Rattle.lab_defs_value.specs.Replies.{Strategy, IsTable, strategy_of, other, opponent, reply_sets}
+use Rattle.lab_defs_value.specs.Bounds.{at, through, Holds}
+use Rattle.lab_defs_value.specs.Expectation.{grid_of}
+use Rattle.lab_defs_game.specs.Forms.{game_actions}
+
+-- a seat, its weights in set order, and a bound for each set of its opponent
+pub record Certificate : Type 0 where
+  pub seat : ℕ
+  pub weights : List ℕ
+  pub bounds : List ℤ
+
+-- ---- its text
+
+abbrev pub quoted : Bytes → Bytes
+quoted text = 34 ∷ text ++ (34 ∷ [])
+
+-- texts between brackets, with commas between them
+abbrev pub bracketed : List Bytes → Bytes
+bracketed texts = 91 ∷ join_with_byte 44 texts ++ (93 ∷ [])
+
+-- a key with a value
+abbrev pub keyed : Bytes → Bytes → Bytes
+keyed key value = quoted key ++ (58 ∷ value)
+
+-- compactly, its keys in order, the bounds as texts
+abbrev pub certificate_text : Certificate → Bytes
+certificate_text c =
+    123 ∷ join_with_byte 44 (keyed (codes "bounds") (bracketed (map (λ b. quoted (signed_numeral b)) c.bounds)) ∷ keyed (codes "seat") (numeral c.seat)
+    ∷ keyed (codes "weights") (bracketed (map numeral c.weights)) ∷ []) ++ (125 ∷ [])
+
+-- ---- read
+
+-- a text that is no JSON; a value that is no certificate, by what is wrong first
+pub data CertificateFault : Type 0 where
+  bad_json : CertificateFault
+  bad_shape : (key : Bytes) → CertificateFault
+
+-- bytes that are the UTF-8 of characters
+abbrev pub is_utf8 : Bytes → Bool
+is_utf8 bytes = all_scalars (chars bytes) && bytes_eq (encode_utf8_all (chars bytes)) bytes
+
+-- the value of a JSON text of at most 127 levels
+abbrev pub json_of : Bytes → Option Data
+json_of bytes = if is_utf8 bytes then read bytes else None
+
+-- a number of 32 bits without a point, an exponent or a sign
+abbrev pub weight_in : Data → Option ℕ
+weight_in d = option_and_then (λ n. if nat_lt n (2 ^ 32) then Some n else None) (option_and_then as_u64 (as_number d))
+
+abbrev pub seat_in : Data → Option ℕ
+seat_in d = option_and_then (λ n. if (n == 1) || (n == 2) then Some n else None) (option_and_then as_u64 (as_number d))
+
+-- a text that is a whole number of at most 2 ^ 100
+abbrev pub bound_in : Data → Option ℤ
+bound_in d = option_and_then (λ w. if is_whole w && nat_le (whole_size w) (2 ^ 100) then Some (whole_value w) else None) (as_str d)
+
+-- each item as f reads it, if it reads all
+abbrev pub all_items : {A : Type 0} → (Data → Option A) → Items → Option (List A)
+all_items f no_items = Some []
+all_items f (item d ds) = option_and_then (λ x. option_map (λ xs. x ∷ xs) (all_items f ds)) (f d)
+
+abbrev pub list_in : {A : Type 0} → (Data → Option A) → Data → Option (List A)
+list_in f d = option_and_then (all_items f) (as_array d)
+
+abbrev pub key_count : Members → ℕ
+key_count no_members = 0
+key_count (member k d ms) = key_count ms + 1
+
+-- what is at a key, as f reads it
+abbrev pub shaped : {A : Type 0} → Bytes → (Data → Option A) → Data → Result A CertificateFault
+shaped key f d = elim (option_and_then f (get key d)) [ Some x ↦ Ok x | None ↦ Err (bad_shape key) ]
+
+-- the certificate that an object is, each of its keys there and no other
+abbrev pub certificate_in : Data → Members → Result Certificate CertificateFault
+certificate_in d ms =
+    shaped (codes "bounds") (list_in bound_in) d >>= λ bounds. shaped (codes "seat") seat_in d >>= λ seat. shaped (codes "weights") (list_in weight_in) d >>= λ weights.
+    if key_count ms == 3 then Ok (record { seat = seat; weights = weights; bounds = bounds }) else Err (bad_shape (codes "extra"))
+
+abbrev pub certificate_of : Data → Result Certificate CertificateFault
+certificate_of d = elim (as_object d) [ Some ms ↦ certificate_in d ms | None ↦ Err (bad_shape (codes "whole")) ]
+
+-- the certificate that a text is, or what is wrong first
+abbrev pub certificate_read : Bytes → Result Certificate CertificateFault
+certificate_read bytes = elim (json_of bytes) [ Some d ↦ certificate_of d | None ↦ Err bad_json ]

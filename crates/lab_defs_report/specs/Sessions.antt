@@ -1,0 +1,56 @@
+-- The mode `session`: a reply for each command.
+use Rattle.std.specs.Prelude.{ℕ, ◌+◌, ◌-◌, List, [], ◌∷◌, ◌++◌, length, Bool, true, false, ◌&&◌, nat_lt, nat_le, if◌then◌else◌, Option, Some, None, Result, Ok, Err}
+use Rattle.std.specs.Str.{bytes_eq}
+use lib.Chars.{codes}
+use Rattle.lab_defs_text.specs.Words.{Bytes, lines}
+use Rattle.lab_defs_text.specs.Numbers.{numeral}
+use Rattle.lab_defs_text.specs.Lines.{joined}
+use Rattle.lab_defs_text.specs.Games.{GameModel}
+use Rattle.lab_defs_text.specs.Texts.{canonical}
+use Rattle.lab_defs_text.specs.Readings.{game_of}
+use Rattle.lab_defs_game.specs.Unfolding.{unfold_fault}
+use Rattle.lab_defs_game.specs.Recall.{recall_fault}
+use Rattle.lab_defs_game.specs.Counts.{counts_of}
+use Rattle.lab_defs_report.specs.Commands.{command_at}
+use Rattle.lab_defs_report.specs.States.{State, step_of}
+use Rattle.lab_defs_report.specs.Cuts.{commands_limit, passed_limit, Cut, cut_at, cut_refused, cut_open, cut_from, goes_on}
+use Rattle.lab_defs_report.specs.Answers.{Answer, answer, silent, refusing, following}
+use Rattle.lab_defs_report.specs.Refusals.{Refusal, refused, refused_text, refused_unfolding, refused_recall, refused_in_line, refused_command}
+
+use Rattle.lab_defs_report.specs.GameModes.{playable}
+
+-- the state and the reply of the command line with a number, on a line of the input; or its refusal
+abbrev pub answered : (line number : ℕ) → State → Bytes → Result (State × List Bytes) Refusal
+answered line number s bytes = elim (command_at number bytes) [
+  | Ok c ↦ elim (step_of s c) [ Ok r ↦ Ok r | Err f ↦ Err (refused_command line f) ]
+  | Err f ↦ Err (refused_in_line line f)
+]
+
+-- what is written where an input ends in a line that no line feed ends
+abbrev pub last_answer : Bool → ℕ → Bytes → Answer
+last_answer false n l = silent
+last_answer true n [] = silent
+last_answer true n (c ∷ cs) = refusing (refused n (codes "NoNewline") [])
+
+-- the replies to command lines behind the line of `done`, from the one with a number on, `left` bytes being allowed, up to and with the first refusal
+abbrev pub session_from : Bool → (done number left : ℕ) → State → List Bytes → Answer
+session_from ended done number left s [] = silent
+session_from ended done number left s (l ∷ []) = elim (passed_limit (codes "InputTooLong") left (length l) 0) [
+  | Some code ↦ refusing (refused (done + number) code [])
+  | None ↦ last_answer ended (done + number) l
+]
+session_from ended done number left s (l ∷ m ∷ ms) = elim (passed_limit (codes "InputTooLong") left (length l) 1) [
+  | Some code ↦ refusing (refused (done + number) code [])
+  | None ↦ elim (answered (done + number) number s l) [
+    | Err r ↦ refusing r
+    | Ok r ↦ following (joined r.1 ++ (10 ∷ [])) (session_from ended done (number + 1) (left - (length l + 1)) r.0 (m ∷ ms))
+  ]
+]
+
+abbrev pub session_cut : Bool → Cut → Answer
+session_cut ended (cut_at text line behind) = elim (playable text line) [
+  | Ok g ↦ session_from ended line 1 commands_limit (record { game = g; plays = None }) behind
+  | Err r ↦ refusing r
+]
+session_cut ended (cut_refused r) = refusing r
+session_cut ended cut_open = silent
