@@ -1,3 +1,5 @@
 pub mod FitLemmas
 pub mod LineLemmas
 pub mod WordLemmas
+pub mod NumberLemmas
+pub mod NameSteps
