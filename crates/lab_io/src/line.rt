@@ -11,6 +11,8 @@ ghost use Rattle.std.specs.Prelude.{
   List,
   [],
   min,
+  not,
+  ◌==◌,
   vec_len,
   IsTrue,
   length,
@@ -20,6 +22,7 @@ ghost use Rattle.std.specs.Prelude.{
   OnOk,
   IfErr,
 };
+ghost use Rattle.std.specs.List.{take_while};
 ghost use Rattle.std.specs.declared.option.Option.{Option};
 ghost use Rattle.lab_io.specs.Causes.{Rose};
 ghost use Rattle.lab_io.specs.Reading.{
@@ -112,9 +115,7 @@ fn extend_line(line: &mut Vec<u8>, ahead: &[u8], allowance: u64) -> Result<usize
 
 // How many bytes stand before the first line feed, or all where there is none.
 fn count_before_feed(bytes: &[u8]) -> usize
-    ensures within { result ≤ length bytes.now }
-    ensures unended { IsTrue (no_feed (take result bytes.now)) }
-    ensures feed { result < length bytes.now → slice_index bytes.now result ≡ 10 }
+    ensures { result ≡ length (take_while (λ c. not (c == 10)) bytes.now) }
 {
-    bytes.iter().position(|byte| *byte == b'\n').unwrap_or(bytes.len())
+    bytes.iter().take_while(|byte| **byte != b'\n').count()
 }
