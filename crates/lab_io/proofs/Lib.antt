@@ -1,2 +1,4 @@
+pub mod Feeds
 pub mod Fronts
+pub mod Givings
 pub mod Stops

@@ -1,26 +1,36 @@
--- What a reader has taken where it stops at a piece that it does not keep.
-use Rattle.std.proofs.Common.{ℕ, ◌+◌, ◌<◌, ◌≤◌, ◌-◌, ◌++◌, List, length, length-append, arith, refl}
+-- What a reader has taken where it stops, and why it stops at a byte past the limit or the allowance.
+use Rattle.std.proofs.Common.{◌≡◌, ℕ, ◌+◌, ◌<◌, ◌≤◌, ◌++◌, List, [], ◌∷◌, true, IsTrue, length, take, slice_index, length-append, sym, subst, arith, refl, ap, min}
+use Rattle.std.proofs.lemmas.List.{get_or-append-add}
 use Rattle.std.specs.declared.option.Option.{Option}
-use Rattle.std.specs.Io.KnownBytes.{Consumes}
-use Rattle.lab_io.specs.Reading.{StoppedAfter}
-use Rattle.lab_io.specs.declared.line_reader.TheConstants.{READ_AHEAD}
-use Rattle.lab_io.specs.declared.line_reader.ReadStop.TheVariants.{AllowancePassed, Memory}
-use Rattle.lab_io.proofs.Fronts.{Consumes-append}
+use Rattle.lab_io.proofs.Feeds.{no_feed-front}
+use Rattle.lab_io.specs.Reading.{Takes, StoppedAfter, PassesLimit, PassesAllowance, no_feed}
+use Rattle.lab_io.specs.declared.line_reader.TheConstants.{READ_AHEAD, LINE_LIMIT}
 
--- a piece longer than what is left of the allowance passes it
-pub StoppedAfter-passed : (a b c : Option (List ℕ)) (before piece : List ℕ) (allowance : ℕ) → Consumes a b before → Consumes b c piece → length before ≤ allowance → length piece ≤ READ_AHEAD → allowance - length before < length piece → StoppedAfter a c allowance AllowancePassed
-StoppedAfter-passed a b c before piece allowance p q kept short past = record {
-  taken = before ++ piece;
-  consumed = Consumes-append a b c before piece p q;
-  within = rw length-append (omega arith);
-  passed = (λ _. rw length-append (omega arith), λ _. refl);
+-- a reader that gave what is within the allowance has taken at most a buffer more
+pub StoppedAfter-given : {a b : List ℕ} {l m : Option (List ℕ)} {given : List ℕ} {allowance : ℕ} (Why : List ℕ → Type 0) → Takes a l b m given → length given ≤ allowance → length b ≤ READ_AHEAD → Why (given ++ b) → StoppedAfter a l m allowance Why
+StoppedAfter-given {a} {b} {l} {m} {given} {allowance} Why p paid short why = record {
+  taken = p.taken;
+  consumed = p.consumed;
+  within = omega (arith, simp length-append at (ap length p.split));
+  why = subst Why (sym p.split) why;
 }
 
--- a piece within the allowance that finds no memory does not pass it
-pub StoppedAfter-memory : (a b c : Option (List ℕ)) (before piece : List ℕ) (allowance : ℕ) → Consumes a b before → Consumes b c piece → length before + length piece ≤ allowance → StoppedAfter a c allowance Memory
-StoppedAfter-memory a b c before piece allowance p q fits = record {
-  taken = before ++ piece;
-  consumed = Consumes-append a b c before piece p q;
-  within = rw length-append (omega arith);
-  passed = (λ same. cc, λ past. let long : allowance < length before + length piece = rw length-append at past in absurd (omega arith));
+-- a line that has grown longer than the limit passes it
+pub PassesLimit-at : (line ahead : List ℕ) (count allowance : ℕ) → IsTrue (no_feed line) → count ≤ length ahead → IsTrue (no_feed (take count ahead)) → LINE_LIMIT < length line + count → LINE_LIMIT ≤ allowance → PassesLimit allowance (line ++ ahead)
+PassesLimit-at line ahead count allowance none within more long reached = record {
+  long = rw length-append (omega arith);
+  unended = no_feed-front (LINE_LIMIT + 1) line ahead count none within more (omega arith);
+  reached = reached;
+}
+
+-- a line within the allowance that with what comes next, and the line feed after that, is longer than it
+pub PassesAllowance-at : (line ahead : List ℕ) (count allowance : ℕ) → IsTrue (no_feed line) → count ≤ length ahead → IsTrue (no_feed (take count ahead)) → (count < length ahead → slice_index ahead count ≡ 10) → min (length line + count) (allowance + 1) ≤ LINE_LIMIT → allowance < length line + min (count + 1) (length ahead) → PassesAllowance allowance (line ++ ahead)
+PassesAllowance-at line ahead count allowance none within more feed first past = record {
+  long = rw length-append (omega arith);
+  unended = no_feed-front allowance line ahead count none within more (omega arith);
+  reached = omega arith;
+  at_limit = λ same.
+      let full : LINE_LIMIT ≡ length line + count = omega arith in
+      let ended : count < length ahead = omega arith in
+      rw (full, get_or-append-add) (feed ended);
 }

@@ -1,16 +1,18 @@
 //! Sources and sinks of bytes that count their faults: in memory and over std, whole writes, and a
-//! reader that takes no more than its allowance.
+//! reader of lines that takes no more than its allowance.
 #![tactic(auto)]
 
+mod line;
 mod line_reader;
 mod memory_sink;
 mod memory_source;
+mod read_ahead;
 mod sink;
 mod source;
 mod std_streams;
 mod write;
 
-pub use line_reader::{LineReader, READ_AHEAD, ReadStop};
+pub use line_reader::{LINE_LIMIT, LineReader, READ_AHEAD, ReadStop, Took};
 pub use memory_sink::MemSink;
 pub use memory_source::MemSource;
 pub use sink::Sink;

@@ -1,12 +1,11 @@
-//! A reader that takes no more bytes of a source than its allowance and one buffer.
+//! A reader of lines that takes no more bytes of a source than its allowance and one buffer.
 
 ghost use Rattle.std.specs.Prelude.{
   ◌≡◌,
-  ◌<◌,
   ◌≤◌,
   ◌+◌,
+  [],
   true,
-  false,
   IsTrue,
   length,
   is_ok,
@@ -15,10 +14,20 @@ ghost use Rattle.std.specs.Prelude.{
   OnErr,
   IfErr,
 };
-ghost use Rattle.std.specs.Io.KnownBytes.{Consumes, IsAtEnd};
+ghost use Rattle.std.specs.Io.KnownBytes.{IsAtEnd};
 ghost use Rattle.lab_io.specs.Causes.{Rose};
-ghost use Rattle.lab_io.specs.Reading.{StoppedAfter};
+ghost use Rattle.lab_io.specs.Reading.{
+  Takes,
+  StoppedAfter,
+  LineStop,
+  RestStop,
+  IsKept,
+  IsEnd,
+  given_by,
+};
 
+use crate::line::read_line;
+use crate::read_ahead::ReadAhead;
 use crate::{NoMemory, Source};
 use std::alloc::Global;
 use std::marker::Model;
@@ -26,10 +35,26 @@ use std::marker::Model;
 /// How many bytes a reader holds beside what it has given: the length of its buffer.
 pub const READ_AHEAD: usize = 65536;
 
-/// Why a read stopped before the end.
+/// The most bytes of a line, without its line feed.
+pub const LINE_LIMIT: usize = 1_048_576;
+
+/// What the next line is.
+#[derive(Clone, Copy, Debug, PartialEq, Eq)]
+pub enum Took {
+    /// A line, which the reader keeps without its line feed.
+    Line,
+    /// None: the input ended where a line would begin.
+    End,
+}
+
+/// Why a read stopped before it had what it was to give.
 #[derive(Clone, Copy, Debug, PartialEq, Eq)]
 pub enum ReadStop {
-    /// The source has more bytes than the reader may take.
+    /// The input ended inside a line.
+    NoNewline,
+    /// The line has more bytes than LINE_LIMIT.
+    LineTooLong,
+    /// There are more bytes than the reader may give.
     AllowancePassed,
     /// The source failed.
     ReadFault,
@@ -37,44 +62,51 @@ pub enum ReadStop {
     Memory,
 }
 
-/// A reader with an allowance of bytes. It is live until a read stops before the end.
+/// A reader with an allowance of bytes, which reads ahead of what it gives. It is live until a read
+/// stops with an error.
 #[derive(Drop)]
 pub struct LineReader {
     alloc: Global,
-    buffer: Vec<u8>,
+    ahead: ReadAhead,
+    line: Vec<u8>,
     allowance: u64,
     live: bool,
 }
 
 impl Model for LineReader {
-    ghost use Rattle.std.specs.Prelude.{◌≡◌, vec_len};
     ghost use Rattle.lab_io.specs.Reading.{Reader};
-    ghost use Rattle.lab_io.specs.declared.line_reader.TheConstants.{READ_AHEAD};
 
     ghost Value = { Reader };
 
-    ghost view = { λ r. record { allowance = r.allowance; live = r.live } };
-
-    ghost invariant = { λ r. vec_len r.buffer ≡ READ_AHEAD };
+    ghost view = { λ r. record {
+      ahead = r.ahead;
+      line = r.line.items;
+      allowance = r.allowance;
+      live = r.live;
+    } };
 }
 
 impl LineReader {
-    /// A live reader that may take no byte yet.
+    /// A live reader with no byte read ahead, which may give none yet.
     pub fn start(alloc: Global) -> Result<LineReader, NoMemory>
-        ensures { IfOk result (λ r. r ≡ record { allowance = 0; live = true }) }
+        ensures { IfOk result (λ r. r ≡ record {
+          ahead = [];
+          line = [];
+          allowance = 0;
+          live = true;
+        }) }
     {
-        let Ok(buffer) = vec![in alloc; 0; READ_AHEAD] else {
-            return Err(NoMemory);
-        };
         Ok(LineReader {
             alloc,
-            buffer,
+            ahead: ReadAhead::new(alloc)?,
+            line: Vec::new(alloc),
             allowance: 0,
             live: true,
         })
     }
 
-    /// Sets how many more bytes it may take.
+    /// Sets how many more bytes it may give, as lines with their line feeds or as the rest. A byte
+    /// that was read ahead counts when it is given.
     pub fn allow(&mut self, bytes: u64)
         ensures { self.new ≡ record self.old { allowance = bytes } }
     {
@@ -88,22 +120,69 @@ impl LineReader {
         self.live
     }
 
-    /// Reads to the end of the source, and gives all the bytes. Where the reader stops before the
-    /// end, what it had taken is lost: at most a buffer past the allowance.
-    pub fn rest<S: Source>(&mut self, source: &mut S) -> Result<Vec<u8>, ReadStop>
+    /// The line that the last call of `next` took, without its line feed. It is empty where that call
+    /// took none, and after `rest`.
+    pub fn line(&self) -> &[u8]
+        ensures { result.now ≡ self.now.line }
+    {
+        self.line.as_slice()
+    }
+
+    /// Takes the next line, or finds the end of input where a line would begin. Where the reader
+    /// stops with an error, what it had taken is lost: at most a buffer past the allowance.
+    pub fn next<S: Source>(&mut self, source: &mut S) -> Result<Took, ReadStop>
         requires { IsTrue self.old.live }
-        ensures bytes { IfOk result (λ v. Consumes (S.left source.old) (S.left source.new) v.items) }
-        ensures end { OnOk result (IsAtEnd (S.left source.new)) }
-        ensures allowance { IfOk result (λ v. self.new.allowance + length v.items ≡ self.old.allowance) }
+        ensures bytes { IfOk result (λ took. Takes self.old.ahead (S.left source.old)
+            self.new.ahead (S.left source.new) (given_by took self.new.line)) }
+        ensures line { IfOk result (λ took. IsKept took self.new.line) }
+        ensures end { result ≡ Ok Took.End →
+            IsEnd self.old.ahead self.new.ahead (S.left source.new) }
+        ensures allowance { IfOk result (λ took.
+            self.new.allowance + length (given_by took self.new.line) ≡ self.old.allowance) }
         ensures stop { IfErr result (λ stop.
-            StoppedAfter (S.left source.old) (S.left source.new) self.old.allowance stop) }
+            StoppedAfter self.old.ahead (S.left source.old) (S.left source.new) self.old.allowance
+                (LineStop self.old.allowance (S.left source.new) stop)) }
         ensures later { S.faults source.old ≤ S.faults source.new }
         ensures fault { result ≡ Err ReadStop.ReadFault →
             Rose (S.faults source.old) (S.faults source.new) }
         ensures live { self.new.live ≡ is_ok result }
         ensures same_allowance { OnErr result (self.new.allowance ≡ self.old.allowance) }
+        ensures no_line { OnErr result (self.new.line ≡ []) }
     {
-        let outcome = read_to_end(source, &mut self.buffer, self.allowance, self.alloc);
+        self.line.clear();
+        let outcome = read_line(source, &mut self.ahead, &mut self.line, self.allowance);
+        match outcome {
+            Ok(Took::Line) => self.allowance -= self.line.len() as u64 + 1,
+            Ok(Took::End) => {}
+            Err(_) => {
+                self.line.clear();
+                self.live = false;
+            }
+        }
+        outcome
+    }
+
+    /// Reads to the end of the source, and gives all the bytes, those read ahead first. Where the
+    /// reader stops before the end, what it had taken is lost: at most a buffer past the allowance.
+    pub fn rest<S: Source>(&mut self, source: &mut S) -> Result<Vec<u8>, ReadStop>
+        requires { IsTrue self.old.live }
+        ensures bytes { IfOk result (λ v. Takes self.old.ahead (S.left source.old)
+            self.new.ahead (S.left source.new) v.items) }
+        ensures end { OnOk result (IsAtEnd (S.left source.new)) }
+        ensures none_ahead { OnOk result (self.new.ahead ≡ []) }
+        ensures allowance { IfOk result (λ v. self.new.allowance + length v.items ≡ self.old.allowance) }
+        ensures stop { IfErr result (λ stop.
+            StoppedAfter self.old.ahead (S.left source.old) (S.left source.new) self.old.allowance
+                (RestStop self.old.allowance stop)) }
+        ensures later { S.faults source.old ≤ S.faults source.new }
+        ensures fault { result ≡ Err ReadStop.ReadFault →
+            Rose (S.faults source.old) (S.faults source.new) }
+        ensures live { self.new.live ≡ is_ok result }
+        ensures same_allowance { OnErr result (self.new.allowance ≡ self.old.allowance) }
+        ensures no_line { self.new.line ≡ [] }
+    {
+        self.line.clear();
+        let outcome = read_to_end(source, &mut self.ahead, self.allowance, self.alloc);
         match &outcome {
             Ok(bytes) => self.allowance -= bytes.len() as u64,
             Err(_) => self.live = false,
@@ -112,27 +191,29 @@ impl LineReader {
     }
 }
 
-// Reads to the end by way of the buffer, and gives all the bytes where they are no more than the
+// Reads to the end by way of the bytes read ahead, and gives all where they are no more than the
 // allowance.
 fn read_to_end<S: Source>(
     source: &mut S,
-    buffer: &mut [u8],
+    ahead: &mut ReadAhead,
     allowance: u64,
     alloc: Global,
 ) -> Result<Vec<u8>, ReadStop>
-    requires { length buffer.old ≡ READ_AHEAD }
-    ensures bytes { IfOk result (λ v. Consumes (S.left source.old) (S.left source.new) v.items) }
+    ensures bytes { IfOk result (λ v. Takes ahead.old (S.left source.old)
+        ahead.new (S.left source.new) v.items) }
     ensures end { OnOk result (IsAtEnd (S.left source.new)) }
+    ensures none_ahead { OnOk result (ahead.new ≡ []) }
     ensures allowance { IfOk result (λ v. length v.items ≤ allowance) }
     ensures stop { IfErr result (λ stop.
-        StoppedAfter (S.left source.old) (S.left source.new) allowance stop) }
+        StoppedAfter ahead.old (S.left source.old) (S.left source.new) allowance
+            (RestStop allowance stop)) }
     ensures later { S.faults source.old ≤ S.faults source.new }
     ensures fault { result ≡ Err ReadStop.ReadFault →
         Rose (S.faults source.old) (S.faults source.new) }
 {
     let mut bytes = Vec::new(alloc);
     loop {
-        let Ok(count) = source.read(buffer) else {
+        let Ok(count) = ahead.fill(source) else {
             return Err(ReadStop::ReadFault);
         };
         if count == 0 {
@@ -141,8 +222,9 @@ fn read_to_end<S: Source>(
         if count as u64 > allowance - bytes.len() as u64 {
             return Err(ReadStop::AllowancePassed);
         }
-        if bytes.extend_from_slice(&buffer[..count]).is_err() {
+        if bytes.extend_from_slice(ahead.bytes()).is_err() {
             return Err(ReadStop::Memory);
         }
+        ahead.skip(count);
     }
 }
