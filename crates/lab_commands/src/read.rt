@@ -1,0 +1,1 @@
+//! A command read from its line.
