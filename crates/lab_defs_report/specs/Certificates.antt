@@ -1,25 +1,17 @@
 -- What a certificate claims, and whether it holds.
-use Rattle.std.specs.Prelude.{◌≡◌, ℕ, ◌+◌, ◌^◌, ◌==◌, ◌&&◌, ◌||◌, ℤ, ◌-ℤ◌, int_le, List, [], ◌∷◌, ◌++◌, length, map, nat_le, nat_lt, slice_index, slice_index_or, Bool, true, false, if◌then◌else◌, Option, Some, None, option_map, option_and_then, Result, Ok, Err}
-use Rattle.std.specs.List.{join_with_byte, range_with_len, find}
-use Rattle.std.specs.Str.{bytes_eq, all_scalars, encode_utf8_all, chars}
+use Rattle.std.specs.Prelude.{◌≡◌, ℕ, ℤ, ◌-ℤ◌, int_le, List, [], ◌∷◌, length, slice_index, slice_index_or, if◌then◌else◌, Option, Some, None}
+use Rattle.std.specs.List.{range_with_len, find}
 use Rattle.std.specs.Ordering.{is_eq}
-use lib.Chars.{codes}
-use Rattle.serde_json.specs.Data.{Data, Items, no_items, item, Members, no_members, member}
-use Rattle.serde_json.specs.Find.{get, as_u64, as_number, as_str, as_array, as_object}
-use Rattle.serde_json.specs.Read.{read}
 use Rattle.lab_defs_text.specs.Words.{Bytes}
-use Rattle.lab_defs_text.specs.Numbers.{numeral, signed_numeral, is_whole, whole_value, whole_size}
-use Rattle.lab_defs_text.specs.Steps.{◌>>=◌}
-use Rattle.lab_defs_text.specs.Games.{GameModel, Place, a_world, an_end}
+use Rattle.lab_defs_text.specs.Games.{GameModel}
 use Rattle.lab_defs_text.specs.Texts.{name_of}
 use Rattle.lab_defs_game.specs.Histories.{place_of, inner_histories}
-use Rattle.lab_defs_game.specs.Sets.{Item, seen, set_cmp, sets}
-use Rattle.lab_defs_value.specs.Replies.{Strategy, IsTable, strategy_of, other, opponent, reply_sets}
+use Rattle.lab_defs_game.specs.Sets.{seen, set_cmp, sets}
+use Rattle.lab_defs_value.specs.Replies.{Strategy, IsTable, strategy_of, other, reply_sets}
 use Rattle.lab_defs_value.specs.Bounds.{at, through, Holds}
 use Rattle.lab_defs_value.specs.Expectation.{grid_of}
 use Rattle.lab_defs_game.specs.Forms.{game_actions}
 use Rattle.lab_defs_report.specs.States.{weight_count}
-
 use Rattle.lab_defs_report.specs.CertificateTexts.{Certificate}
 use Rattle.lab_defs_report.specs.Walks.{action_names_at}
 

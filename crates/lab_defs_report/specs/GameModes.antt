@@ -1,8 +1,7 @@
 -- The modes that look at a game and what stands behind it: `check`, `print` and `verify`.
-use Rattle.std.specs.Prelude.{ℕ, ◌+◌, ◌-◌, List, [], ◌∷◌, ◌++◌, length, Bool, true, false, ◌&&◌, nat_lt, nat_le, if◌then◌else◌, Option, Some, None, Result, Ok, Err}
-use Rattle.std.specs.Str.{bytes_eq}
+use Rattle.std.specs.Prelude.{ℕ, ◌+◌, List, [], ◌∷◌, ◌++◌, length, Bool, true, nat_lt, if◌then◌else◌, Option, Some, None, Result, Ok, Err}
 use lib.Chars.{codes}
-use Rattle.lab_defs_text.specs.Words.{Bytes, lines}
+use Rattle.lab_defs_text.specs.Words.{Bytes}
 use Rattle.lab_defs_text.specs.Numbers.{numeral}
 use Rattle.lab_defs_text.specs.Lines.{joined}
 use Rattle.lab_defs_text.specs.Games.{GameModel}
@@ -22,8 +21,8 @@ use Rattle.lab_defs_value.specs.Bounds.{at, bound_units}
 use Rattle.lab_defs_report.specs.States.{SessionFault, weight_count, first_wrong_sum, unless_wrong, counted}
 use Rattle.lab_defs_report.specs.CertificateTexts.{Certificate, certificate_read}
 use Rattle.lab_defs_report.specs.Certificates.{Broken, first_broken, action_name}
-use Rattle.lab_defs_report.specs.Cuts.{commands_limit, passed_limit, Cut, cut_at, cut_refused, cut_open, cut_from, goes_on}
-use Rattle.lab_defs_report.specs.Answers.{Answer, answer, silent, refusing, following}
+use Rattle.lab_defs_report.specs.Cuts.{commands_limit, Cut, cut_at, cut_refused, cut_open, goes_on}
+use Rattle.lab_defs_report.specs.Answers.{Answer, answer, silent, refusing}
 use Rattle.lab_defs_report.specs.Refusals.{Refusal, refused, refused_text, refused_unfolding, refused_recall, refused_command, refused_certificate}
 
 -- a game that a mode looks at, or its refusal

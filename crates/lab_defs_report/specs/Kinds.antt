@@ -1,7 +1,7 @@
 -- The five kinds of generated games, after matching pennies, Kuhn poker, Leduc poker, goofspiel and liar's dice.
 use Rattle.std.specs.Prelude.{ℕ, zero, suc, ◌+◌, ◌-◌, ◌*◌, ◌/◌, ◌%◌, ◌==◌, ◌&&◌, ◌||◌, not, nat_le, nat_lt, ℤ, pos, neg_ℤ, ◌+ℤ◌, ◌-ℤ◌, List, [], ◌∷◌, ◌++◌, length, map, flat_map, filter, Bool, if◌then◌else◌, Option, Some, None}
 use Rattle.std.specs.List.{range_with_len, join_with_byte}
-use Rattle.std.specs.Ordering.{nat_cmp, int_cmp, on, then_cmp}
+use Rattle.std.specs.Ordering.{int_cmp, on, then_cmp}
 use Rattle.std.specs.declared.cmp.Ordering.{Ordering}
 use Rattle.std.specs.Str.{bytes_eq}
 use lib.Chars.{codes}
@@ -9,7 +9,7 @@ use Rattle.lab_defs_text.specs.Words.{Bytes}
 use Rattle.lab_defs_text.specs.Numbers.{numeral}
 use Rattle.lab_defs_text.specs.Games.{GameModel}
 use Rattle.lab_defs_game.specs.Keys.{count, in_order, list_cmp}
-use Rattle.lab_defs_report.specs.Plans.{Next, to_world, to_end, Lead, Scene, Finish, Plan, nothing, leads, Move, open_move, turn, dealing, number_word, finishes_of, game_of_plan}
+use Rattle.lab_defs_report.specs.Plans.{Next, to_world, to_end, Lead, Scene, Plan, nothing, leads, Move, open_move, turn, dealing, number_word, finishes_of, game_of_plan}
 
 pub data GameKind : Type 0 where
   pennies : GameKind
@@ -241,7 +241,7 @@ leduc_plan n =
       grid = 60;
       horizon = 9;
       tokens = (nothing ∷ map rank (up_to ranks)) ++ ((codes "check" ∷ codes "call" ∷ codes "raise" ∷ codes "fold" ∷ [])
-      ++ (map (marked (codes "check-")) (up_to ranks) ++ map (marked (codes "call-")) (up_to ranks)));
+          ++ (map (marked (codes "check-")) (up_to ranks) ++ map (marked (codes "call-")) (up_to ranks)));
       scenes = leduc_all ranks;
       finishes = finishes_of (leduc_all ranks);
     }

@@ -1,10 +1,8 @@
 -- Plain games: those that a session takes today.
-use Rattle.std.specs.Prelude.{◌≡◌, ℕ, zero, suc, List, [], ◌∷◌, ◌++◌, length, count_by, Bool, true, false, not, ◌&&◌, ◌==◌, nat_le, nat_lt}
+use Rattle.std.specs.Prelude.{List, [], ◌∷◌, length, count_by, Bool, true, false, not, ◌&&◌, ◌==◌, nat_lt}
 use Rattle.std.specs.List.{list_all}
-use lib.Chars.{codes}
-use Rattle.lab_defs_text.specs.Words.{Bytes, lines}
 use Rattle.lab_defs_text.specs.Games.{GameModel, Place, a_world, an_end, Outcome}
-use Rattle.lab_defs_text.specs.Texts.{game_ok, canonical, is_world, place_at}
+use Rattle.lab_defs_text.specs.Texts.{game_ok, is_world, place_at}
 
 -- one outcome, of weight 1, that leads to an end
 abbrev pub ends_at_once : GameModel → List Outcome → Bool

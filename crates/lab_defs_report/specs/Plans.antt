@@ -5,7 +5,7 @@ use Rattle.std.specs.Str.{bytes_eq}
 use lib.Chars.{codes}
 use Rattle.lab_defs_text.specs.Words.{Bytes}
 use Rattle.lab_defs_text.specs.Numbers.{numeral}
-use Rattle.lab_defs_text.specs.Games.{GameModel, by_acts, Outcome, Place, a_world, an_end, World}
+use Rattle.lab_defs_text.specs.Games.{GameModel, by_acts, Outcome, Place, a_world, an_end}
 use Rattle.lab_defs_game.specs.Keys.{in_order}
 
 -- where an outcome leads: to a world, or to the end with a payoff

@@ -3,14 +3,14 @@ use Rattle.std.specs.Prelude.{ℕ, ◌+◌, List, [], ◌∷◌, ◌++◌, lengt
 use Rattle.std.specs.List.{list_any, join_with_byte}
 use Rattle.std.specs.Str.{bytes_eq}
 use lib.Chars.{codes}
-use Rattle.lab_defs_text.specs.Words.{Bytes, lines}
+use Rattle.lab_defs_text.specs.Words.{Bytes}
 use Rattle.lab_defs_text.specs.Lines.{joined}
 use Rattle.lab_defs_text.specs.Games.{GameModel}
 use Rattle.lab_defs_report.specs.Plain.{is_plain}
 use Rattle.lab_defs_report.specs.Commands.{Command, expect_uniform, command_at}
 use Rattle.lab_defs_report.specs.States.{uniform_reply}
 use Rattle.lab_defs_report.specs.Refusals.{Refusal, refused, refused_in_line}
-use Rattle.lab_defs_report.specs.Cuts.{line_limit, commands_limit, Cut, cut_at, cut_refused, cut_open, cut_from}
+use Rattle.lab_defs_report.specs.Cuts.{line_limit, commands_limit, Cut, cut_at, cut_refused, cut_open}
 use Rattle.lab_defs_report.specs.Answers.{Answer, answer, silent, refusing, following}
 use Rattle.lab_defs_report.specs.GameModes.{read_text, print_cut}
 use Rattle.lab_defs_report.specs.Sessions.{last_answer}

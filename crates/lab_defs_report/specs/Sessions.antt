@@ -1,22 +1,13 @@
 -- The mode `session`: a reply for each command.
-use Rattle.std.specs.Prelude.{ℕ, ◌+◌, ◌-◌, List, [], ◌∷◌, ◌++◌, length, Bool, true, false, ◌&&◌, nat_lt, nat_le, if◌then◌else◌, Option, Some, None, Result, Ok, Err}
-use Rattle.std.specs.Str.{bytes_eq}
+use Rattle.std.specs.Prelude.{ℕ, ◌+◌, ◌-◌, List, [], ◌∷◌, ◌++◌, length, Bool, true, false, Some, None, Result, Ok, Err}
 use lib.Chars.{codes}
-use Rattle.lab_defs_text.specs.Words.{Bytes, lines}
-use Rattle.lab_defs_text.specs.Numbers.{numeral}
+use Rattle.lab_defs_text.specs.Words.{Bytes}
 use Rattle.lab_defs_text.specs.Lines.{joined}
-use Rattle.lab_defs_text.specs.Games.{GameModel}
-use Rattle.lab_defs_text.specs.Texts.{canonical}
-use Rattle.lab_defs_text.specs.Readings.{game_of}
-use Rattle.lab_defs_game.specs.Unfolding.{unfold_fault}
-use Rattle.lab_defs_game.specs.Recall.{recall_fault}
-use Rattle.lab_defs_game.specs.Counts.{counts_of}
 use Rattle.lab_defs_report.specs.Commands.{command_at}
 use Rattle.lab_defs_report.specs.States.{State, step_of}
-use Rattle.lab_defs_report.specs.Cuts.{commands_limit, passed_limit, Cut, cut_at, cut_refused, cut_open, cut_from, goes_on}
-use Rattle.lab_defs_report.specs.Answers.{Answer, answer, silent, refusing, following}
-use Rattle.lab_defs_report.specs.Refusals.{Refusal, refused, refused_text, refused_unfolding, refused_recall, refused_in_line, refused_command}
-
+use Rattle.lab_defs_report.specs.Cuts.{commands_limit, passed_limit, Cut, cut_at, cut_refused, cut_open}
+use Rattle.lab_defs_report.specs.Answers.{Answer, silent, refusing, following}
+use Rattle.lab_defs_report.specs.Refusals.{Refusal, refused, refused_in_line, refused_command}
 use Rattle.lab_defs_report.specs.GameModes.{playable}
 
 -- the state and the reply of the command line with a number, on a line of the input; or its refusal

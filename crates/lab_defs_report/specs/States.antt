@@ -23,7 +23,7 @@ use Rattle.lab_defs_value.specs.Passes.{excess, least_margin, first_above}
 use Rattle.lab_defs_value.specs.Candidates.{candidate, solved_tables}
 use Rattle.lab_defs_report.specs.Commands.{Command, expect_uniform, expect, blueprint_uniform, blueprint_given, blueprint_solve, bound, show, propose, resolve, cert, deal, play, rule_word}
 use Rattle.lab_defs_report.specs.Walks.{Words, walk, rounds_pay, pcg64_stream, action_names_at}
-use Rattle.lab_defs_report.specs.CertificateTexts.{Certificate, certificate_text}
+use Rattle.lab_defs_report.specs.CertificateTexts.{certificate_text}
 
 -- the tables of both seats, and the bounds of each seat: numbers at the sets of its opponent
 pub record Plays : Type 0 where

@@ -1,5 +1,5 @@
 -- The modes that make a game: `generate` writes it, `survey` solves it and mends its subgames.
-use Rattle.std.specs.Prelude.{ℕ, zero, suc, ◌+◌, ◌<◌, List, [], ◌∷◌, ◌++◌, length, map, flat_map, filter, slice_index_or, Bool, true, ◌&&◌, ◌==◌, nat_lt, if◌then◌else◌, Option, Some, None, Result, Ok, Err}
+use Rattle.std.specs.Prelude.{ℕ, ◌+◌, List, [], ◌∷◌, ◌++◌, length, map, flat_map, filter, slice_index_or, ◌==◌, nat_lt, if◌then◌else◌, Some, None, Result, Ok, Err}
 use Rattle.std.specs.List.{range_with_len}
 use Rattle.std.specs.Str.{bytes_eq}
 use lib.Chars.{codes}
@@ -7,14 +7,13 @@ use Rattle.lab_defs_text.specs.Words.{Bytes}
 use Rattle.lab_defs_text.specs.Numbers.{numeral}
 use Rattle.lab_defs_text.specs.Lines.{joined}
 use Rattle.lab_defs_text.specs.Faults.{LineFault}
-use Rattle.lab_defs_text.specs.Steps.{◌>>=◌}
 use Rattle.lab_defs_text.specs.Games.{GameModel}
 use Rattle.lab_defs_text.specs.Texts.{canonical}
 use Rattle.lab_defs_game.specs.Counts.{counts_of}
 use Rattle.lab_defs_game.specs.Nodes.{nodes, depth}
 use Rattle.lab_defs_value.specs.Allowances.{reach}
 use Rattle.lab_defs_report.specs.Commands.{Command, blueprint_solve, resolve, small_at}
-use Rattle.lab_defs_report.specs.States.{State, Proposal, inside_count, seat_bound, step_of}
+use Rattle.lab_defs_report.specs.States.{State, inside_count, seat_bound, step_of}
 use Rattle.lab_defs_report.specs.Refusals.{Refusal, refused, refused_in_line}
 use Rattle.lab_defs_report.specs.Answers.{Answer, answer, refusing}
 use Rattle.lab_defs_report.specs.Kinds.{GameKind, kind_named, least_size, greatest_size, is_size, generated}

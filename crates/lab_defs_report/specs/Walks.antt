@@ -9,7 +9,7 @@ use Rattle.lab_defs_text.specs.Games.{GameModel, Place, a_world, an_end}
 use Rattle.lab_defs_text.specs.Words.{Bytes}
 use Rattle.lab_defs_text.specs.Texts.{is_world}
 use Rattle.lab_defs_text.specs.Steps.{◌>>=◌}
-use Rattle.lab_defs_game.specs.Histories.{Step, History, row_of, place_of, payoff}
+use Rattle.lab_defs_game.specs.Histories.{History, row_of, place_of, payoff}
 use Rattle.lab_defs_game.specs.Sets.{seen, set_number}
 use Rattle.lab_defs_game.specs.Forms.{game_actions, decides}
 use Rattle.lab_defs_value.specs.Tables.{first_weight}
