@@ -20,3 +20,8 @@ pub mod Expecting
 pub mod Sizing
 pub mod UniformLemmas
 pub mod WholeTables
+pub mod RoundingSums
+pub mod RegretSums
+pub mod RoundedTables
+pub mod Rounds
+pub mod GadgetSets

@@ -1,6 +1,19 @@
 //! Laws of best values, bounds and allowances.
 
 ghost use Rattle.lab_defs_value.specs.WholeLaws.{UniformLaw, WholeLaw};
+ghost use Rattle.lab_defs_value.specs.MatchingLaws.{
+  RoundedLaw,
+  RoundedTableLaw,
+  ZeroSharesLaw,
+  ActionsLaw,
+  ValueLaw,
+  RegretLaw,
+  RoundLaw,
+  GadgetLaw,
+  AveragesLaw,
+  CandidateLaw,
+  SolvedLaw,
+};
 ghost use Rattle.lab_defs_value.specs.Laws.{
   FormTestLaw,
   UniqueBestLaw,
@@ -106,4 +119,32 @@ pub fn safe_splices()
 /// How large own weights, earnings and best values are at most.
 pub fn sizes()
     ensures { SizeLaw }
+{}
+
+/// Shares are rounded to weights that sum to the grid, whatever they are.
+pub fn rounding()
+    ensures weights { RoundedLaw }
+    ensures tables { RoundedTableLaw }
+    ensures zeros { ZeroSharesLaw }
+{}
+
+/// The value of a set is the sum of its actions' values by their weights, so the regrets of a round
+/// sum to zero by the weights of that round.
+pub fn regrets()
+    ensures there { ActionsLaw }
+    ensures values { ValueLaw }
+    ensures regrets { RegretLaw }
+    ensures rounds { RoundLaw }
+{}
+
+/// A gadget leaves the keeper's sets, paths and pads as they are in the subgame, and puts the opponent's further sets first.
+pub fn gadgets()
+    ensures { GadgetLaw }
+{}
+
+/// What regret matching finds are tables, also on a gadget, after any number of rounds.
+pub fn averages()
+    ensures averages { AveragesLaw }
+    ensures candidates { CandidateLaw }
+    ensures solved { SolvedLaw }
 {}

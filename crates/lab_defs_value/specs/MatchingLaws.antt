@@ -1,0 +1,103 @@
+-- Laws of rounding, regret matching, gadgets and candidates.
+use Rattle.std.specs.Prelude.{◌≡◌, ◌⊎◌, ℕ, ◌+◌, ◌-◌, ◌<◌, ◌≤◌, ℤ, pos, ◌*ℤ◌, ◌-ℤ◌, List, [], ◌++◌, length, map, take, drop, replicate, true, All, slice_index}
+use Rattle.lab_math.specs.Sums.{sum_over}
+use Rattle.lab_math.specs.Below.{sum_below, total_below}
+use Rattle.lab_defs_text.specs.Games.{GameModel}
+use Rattle.lab_defs_game.specs.Forms.{Taken, Row, Form, game_actions, actions_of, path_of, pad_of, decides}
+use Rattle.lab_defs_value.specs.Rounding.{rounded}
+use Rattle.lab_defs_value.specs.Tables.{first_weight, uniform_table}
+use Rattle.lab_defs_value.specs.Expectation.{grid_of}
+use Rattle.lab_defs_value.specs.Parents.{IsForm}
+use Rattle.lab_defs_value.specs.Replies.{IsTable, other}
+use Rattle.lab_defs_value.specs.WholeLaws.{SumsToGrid}
+use Rattle.lab_defs_value.specs.Allowances.{Rule}
+use Rattle.lab_defs_value.specs.Subgames.{span_at, span_actions}
+use Rattle.lab_defs_value.specs.Gadgets.{further_sets, entered, gadget}
+use Rattle.lab_defs_value.specs.Matching.{rounded_table, Pair, grid_in, sets_in, weight_in, action_value, set_value, zeros, Tally, pair_of, averages}
+use Rattle.lab_defs_value.specs.Candidates.{candidate, solved_tables}
+
+-- the shares of at least one action are rounded to weights that sum to the grid, one for each, none above it
+abbrev pub RoundedLaw : Type 0
+RoundedLaw = (grid : ℕ) (shares : List ℤ)
+    → (1 ≤ length shares → sum_over (λ w. w) (rounded grid shares) ≡ grid) × (length (rounded grid shares) ≡ length shares) × All (λ w. w ≤ grid) (rounded grid shares)
+
+-- a table has a weight for each action of each deciding set, none above the grid, and at each deciding set they sum to it
+abbrev pub IsWhole : ℕ → List ℕ → List ℕ → Type 0
+IsWhole grid actions table = (length table ≡ first_weight actions (length actions)) × All (λ w. w ≤ grid) table × SumsToGrid grid actions table
+
+-- as many shares as there are weights are rounded to a table, whatever they are
+abbrev pub RoundedTableLaw : Type 0
+RoundedTableLaw = (grid : ℕ) (actions : List ℕ) (shares : List ℤ) → length shares ≡ first_weight actions (length actions)
+    → IsWhole grid actions (rounded_table grid actions shares) × (1 ≤ grid → IsTable actions grid (rounded_table grid actions shares))
+
+-- where all shares are 0 it is the even split
+abbrev pub ZeroSharesLaw : Type 0
+ZeroSharesLaw = (grid : ℕ) (actions : List ℕ) → rounded_table grid actions (zeros actions) ≡ uniform_table grid actions
+
+-- each action on the paths of a seat is one of its set's
+abbrev pub HasActions : Form → ℕ → Type 0
+HasActions f seat = All (λ (z : Row). All (λ (t : Taken). t.action < slice_index (actions_of f seat) t.set) (path_of z seat)) f.rows
+
+-- so it is in a form
+abbrev pub ActionsLaw : Type 0
+ActionsLaw = (f : Form) (seat : ℕ) → IsForm f seat → HasActions f seat
+
+-- the value of a deciding set, times the grid, is the sum of its actions' values, each times its weight
+abbrev pub ValueLaw : Type 0
+ValueLaw = (p : Pair) (seat I : ℕ) → HasActions p.form seat → decides (sets_in p seat) I ≡ true
+    → pos (grid_in p seat) *ℤ set_value p seat I ≡ total_below (slice_index (sets_in p seat) I) (λ a. pos (weight_in p seat I a) *ℤ action_value p seat I a)
+
+-- what the actions of a set are worth more than the set, each times its weight, sums to zero
+abbrev pub NoRegret : Pair → (seat I : ℕ) → Type 0
+NoRegret p seat I = total_below (slice_index (sets_in p seat) I) (λ a. pos (weight_in p seat I a) *ℤ (action_value p seat I a -ℤ set_value p seat I)) ≡ pos 0
+
+-- so it is where the weights of a deciding set sum to the grid
+abbrev pub RegretLaw : Type 0
+RegretLaw = (p : Pair) (seat I : ℕ) → HasActions p.form seat → decides (sets_in p seat) I ≡ true
+    → sum_below (slice_index (sets_in p seat) I) (weight_in p seat I) ≡ grid_in p seat → NoRegret p seat I
+
+-- a tally has a regret and a sum for each weight
+pub record IsTally (f : Form) (t : Tally) : Type 0 where
+  pub regrets1 : length t.regrets1 ≡ first_weight f.actions1 (length f.actions1)
+  pub regrets2 : length t.regrets2 ≡ first_weight f.actions2 (length f.actions2)
+  pub sums1 : length t.sums1 ≡ first_weight f.actions1 (length f.actions1)
+  pub sums2 : length t.sums2 ≡ first_weight f.actions2 (length f.actions2)
+
+-- and so it is in each round: its tables are tables, and its regrets sum to zero by them
+abbrev pub RoundLaw : Type 0
+RoundLaw = (grid1 grid2 : ℕ) (f : Form) (t : Tally) → IsTally f t
+    → IsWhole grid1 f.actions1 (pair_of grid1 grid2 f t).table1 × IsWhole grid2 f.actions2 (pair_of grid1 grid2 f t).table2
+    × ((I : ℕ) → HasActions f 1 → I < length f.actions1 → decides f.actions1 I ≡ true → NoRegret (pair_of grid1 grid2 f t) 1 I)
+    × ((I : ℕ) → HasActions f 2 → I < length f.actions2 → decides f.actions2 I ≡ true → NoRegret (pair_of grid1 grid2 f t) 2 I)
+
+-- a form h begins with the rows of f, where a seat has the sets, paths and pads that it has there, and behind them come rows without the seat's actions
+pub record KeepsSeat (f h : Form) (seat : ℕ) : Type 0 where
+  pub sets : actions_of h seat ≡ actions_of f seat
+  pub paths : map (λ z. path_of z seat) (take (length f.rows) h.rows) ≡ map (λ z. path_of z seat) f.rows
+  pub pads : map (λ z. pad_of z seat) (take (length f.rows) h.rows) ≡ map (λ z. pad_of z seat) f.rows
+  pub behind : map (λ z. path_of z seat) (drop (length f.rows) h.rows) ≡ replicate (length h.rows - length f.rows) []
+
+-- a gadget keeps the keeper of the subgame; the opponent's further sets come first, it enters the subgame by them, and the rows are worth what they were, with a further one for each root set
+abbrev pub GadgetLaw : Type 0
+GadgetLaw = (rule : Rule) (keeper roots factors : ℕ) (limits : ℕ → ℤ) (f : Form) →
+    let h = gadget rule (other keeper) roots factors limits f in
+    KeepsSeat f h keeper
+    × (actions_of h (other keeper) ≡ further_sets rule roots ++ actions_of f (other keeper))
+    × (map (λ z. path_of z (other keeper)) (take (length f.rows) h.rows) ≡ map (λ z. entered rule (length (further_sets rule roots)) (path_of z (other keeper))) f.rows)
+    × (map (λ (z : Row). z.worth) (take (length f.rows) h.rows) ≡ map (λ (z : Row). z.worth) f.rows)
+    × (length h.rows ≡ length f.rows + roots)
+
+-- the averages over any number of rounds are tables
+abbrev pub AveragesLaw : Type 0
+AveragesLaw = (grid1 grid2 : ℕ) (f : Form) (rounds : ℕ)
+    → IsWhole grid1 f.actions1 (averages grid1 grid2 f rounds).0 × IsWhole grid2 f.actions2 (averages grid1 grid2 f rounds).1
+
+-- so a candidate is a table of the keeper's sets inside the subgame
+abbrev pub CandidateLaw : Type 0
+CandidateLaw = (g : GameModel) (rule : Rule) (keeper : ℕ) (node table : List ℕ) (bounds : List ℤ) (rounds : ℕ) → (keeper ≡ 1) ⊎ (keeper ≡ 2)
+    → IsWhole (grid_of g keeper) (span_actions (span_at g keeper node)) (candidate g rule keeper node table bounds rounds)
+
+-- and what is solved are tables of the game
+abbrev pub SolvedLaw : Type 0
+SolvedLaw = (g : GameModel) (rounds : ℕ)
+    → IsWhole (grid_of g 1) (game_actions g 1) (solved_tables g rounds).0 × IsWhole (grid_of g 2) (game_actions g 2) (solved_tables g rounds).1
