@@ -25,3 +25,5 @@ pub mod RegretSums
 pub mod RoundedTables
 pub mod Rounds
 pub mod GadgetSets
+pub mod Earnings
+pub mod SubgameRows

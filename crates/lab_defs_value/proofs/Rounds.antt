@@ -1,5 +1,5 @@
 -- The rounds of regret matching: their tallies and tables, and what candidates are.
-use Rattle.std.proofs.Common.{◌≡◌, ℕ, zero, suc, pos, List, [], ◌∷◌, length, refl, sym, ap, ◌∙◌, subst, inl, inr}
+use Rattle.std.proofs.Common.{◌≡◌, zero, suc, pos, List, [], ◌∷◌, length, refl, sym, ap, ◌∙◌, subst, inl, inr}
 use Rattle.std.specs.Prelude.{ℤ}
 use Rattle.std.proofs.lemmas.List.{length-replicate}
 use Rattle.lab_defs_game.specs.Forms.{Form, form_of}
@@ -8,7 +8,7 @@ use Rattle.lab_defs_value.specs.Subgames.{span_at, span_actions}
 use Rattle.lab_defs_value.specs.Gadgets.{gadget_form}
 use Rattle.lab_defs_value.specs.Matching.{Pair, added, at_deciding, regrets_at, reached_at, Tally, tally_start, with_pair, pair_of, tally_after}
 use Rattle.lab_defs_value.specs.Candidates.{candidate}
-use Rattle.lab_defs_value.specs.MatchingLaws.{IsWhole, IsTally, RoundLaw, AveragesLaw, CandidateLaw, SolvedLaw}
+use Rattle.lab_defs_value.specs.MatchingLaws.{IsWhole, IsTally, TallyLaw, RoundLaw, AveragesLaw, CandidateLaw, SolvedLaw}
 use Rattle.lab_defs_value.proofs.RegretSums.{regret_law}
 use Rattle.lab_defs_value.proofs.RoundedTables.{all_weights, rounded_whole, sums_below}
 
@@ -37,9 +37,9 @@ pair_long f p t ok = record {
 }
 
 -- after any number of rounds
-pub tally_long : (grid1 grid2 : ℕ) (f : Form) (n : ℕ) → IsTally f (tally_after grid1 grid2 f n)
-tally_long grid1 grid2 f zero = start_long f
-tally_long grid1 grid2 f (suc n) = pair_long f (pair_of grid1 grid2 f (tally_after grid1 grid2 f n)) (tally_after grid1 grid2 f n) (tally_long grid1 grid2 f n)
+pub tally_law : TallyLaw
+tally_law grid1 grid2 f zero = start_long f
+tally_law grid1 grid2 f (suc n) = pair_long f (pair_of grid1 grid2 f (tally_after grid1 grid2 f n)) (tally_after grid1 grid2 f n) (tally_law grid1 grid2 f n)
 
 -- the law of rounds
 pub round_law : RoundLaw
@@ -56,7 +56,7 @@ round_law grid1 grid2 f t ok =
 -- the law of averages
 pub averages_law : AveragesLaw
 averages_law grid1 grid2 f n =
-    let ok = tally_long grid1 grid2 f n in
+    let ok = tally_law grid1 grid2 f n in
     (rounded_whole grid1 f.actions1 (tally_after grid1 grid2 f n).sums1 ok.sums1, rounded_whole grid2 f.actions2 (tally_after grid1 grid2 f n).sums2 ok.sums2)
 
 -- the law of candidates

@@ -3,17 +3,18 @@ use Rattle.std.specs.Prelude.{◌≡◌, ◌⊎◌, ℕ, ◌+◌, ◌-◌, ◌<�
 use Rattle.lab_math.specs.Sums.{sum_over}
 use Rattle.lab_math.specs.Below.{sum_below, total_below}
 use Rattle.lab_defs_text.specs.Games.{GameModel}
-use Rattle.lab_defs_game.specs.Forms.{Taken, Row, Form, game_actions, actions_of, path_of, pad_of, decides}
+use Rattle.lab_defs_game.specs.Forms.{Taken, Row, Form, game_actions, actions_of, path_of, pad_of, decides, deciding}
 use Rattle.lab_defs_value.specs.Rounding.{rounded}
-use Rattle.lab_defs_value.specs.Tables.{first_weight, uniform_table}
+use Rattle.lab_defs_value.specs.Tables.{first_weight, own_weight, uniform_table}
 use Rattle.lab_defs_value.specs.Expectation.{grid_of}
 use Rattle.lab_defs_value.specs.Parents.{IsForm}
-use Rattle.lab_defs_value.specs.Replies.{IsTable, other}
+use Rattle.lab_defs_value.specs.Replies.{IsTable, other, reply_by, factors_in, earned}
 use Rattle.lab_defs_value.specs.WholeLaws.{SumsToGrid}
 use Rattle.lab_defs_value.specs.Allowances.{Rule}
-use Rattle.lab_defs_value.specs.Subgames.{span_at, span_actions}
+use Rattle.lab_defs_value.specs.Splices.{FitsSpan, spliced}
+use Rattle.lab_defs_value.specs.Subgames.{span_at, span_actions, Part, span_of, subgame_row}
 use Rattle.lab_defs_value.specs.Gadgets.{further_sets, entered, gadget}
-use Rattle.lab_defs_value.specs.Matching.{rounded_table, Pair, grid_in, sets_in, weight_in, action_value, set_value, zeros, Tally, pair_of, averages}
+use Rattle.lab_defs_value.specs.Matching.{rounded_table, Pair, grid_in, table_in, sets_in, weight_in, action_value, set_value, zeros, Tally, tally_after, pair_of, averages}
 use Rattle.lab_defs_value.specs.Candidates.{candidate, solved_tables}
 
 -- the shares of at least one action are rounded to weights that sum to the grid, one for each, none above it
@@ -56,6 +57,15 @@ abbrev pub RegretLaw : Type 0
 RegretLaw = (p : Pair) (seat I : ℕ) → HasActions p.form seat → decides (sets_in p seat) I ≡ true
     → sum_below (slice_index (sets_in p seat) I) (weight_in p seat I) ≡ grid_in p seat → NoRegret p seat I
 
+-- on each row a seat brings as many factors, decisions and pad together
+abbrev pub HasFactors : Form → ℕ → Type 0
+HasFactors f seat = All (λ (z : Row). deciding (actions_of f seat) (path_of z seat) + pad_of z seat ≡ factors_in f seat) f.rows
+
+-- there the value of a set is what its seat's table earns at it, as a reply to the other seat's
+abbrev pub EarningLaw : Type 0
+EarningLaw = (p : Pair) (seat I : ℕ) → (seat ≡ 1) ⊎ (seat ≡ 2) → HasFactors p.form seat
+    → set_value p seat I ≡ earned (record { form = p.form; keeper = other seat; grid = grid_in p (other seat); table = table_in p (other seat) }) (reply_by (grid_in p seat) (sets_in p seat) (table_in p seat)) I
+
 -- a tally has a regret and a sum for each weight
 pub record IsTally (f : Form) (t : Tally) : Type 0 where
   pub regrets1 : length t.regrets1 ≡ first_weight f.actions1 (length f.actions1)
@@ -63,12 +73,25 @@ pub record IsTally (f : Form) (t : Tally) : Type 0 where
   pub sums1 : length t.sums1 ≡ first_weight f.actions1 (length f.actions1)
   pub sums2 : length t.sums2 ≡ first_weight f.actions2 (length f.actions2)
 
--- and so it is in each round: its tables are tables, and its regrets sum to zero by them
+-- after any number of rounds it has
+abbrev pub TallyLaw : Type 0
+TallyLaw = (grid1 grid2 : ℕ) (f : Form) (rounds : ℕ) → IsTally f (tally_after grid1 grid2 f rounds)
+
+-- in each round the tables are tables, and the regrets sum to zero by them
 abbrev pub RoundLaw : Type 0
 RoundLaw = (grid1 grid2 : ℕ) (f : Form) (t : Tally) → IsTally f t
     → IsWhole grid1 f.actions1 (pair_of grid1 grid2 f t).table1 × IsWhole grid2 f.actions2 (pair_of grid1 grid2 f t).table2
     × ((I : ℕ) → HasActions f 1 → I < length f.actions1 → decides f.actions1 I ≡ true → NoRegret (pair_of grid1 grid2 f t) 1 I)
     × ((I : ℕ) → HasActions f 2 → I < length f.actions2 → decides f.actions2 I ≡ true → NoRegret (pair_of grid1 grid2 f t) 2 I)
+
+-- a row of a subgame is worth by the keeper's weights inside what the whole row is worth by the keeper's table with these weights in it
+abbrev pub SubgameLaw : Type 0
+SubgameLaw = (p : Part) (grid : ℕ) (weights : List ℕ) (z : Row) → (p.keeper ≡ 1) ⊎ (p.keeper ≡ 2) →
+    let s = span_of p p.keeper in
+    let inner = subgame_row p z in
+    FitsSpan s.actions s.start s.end p.table weights → All (λ (t : Taken). t.action < slice_index s.actions t.set) (path_of z p.keeper)
+    → inner.worth *ℤ pos (own_weight grid (span_actions s) weights (path_of inner p.keeper) (pad_of inner p.keeper))
+    ≡ z.worth *ℤ pos (own_weight grid s.actions (spliced s.actions s.start s.end p.table weights) (path_of z p.keeper) (pad_of z p.keeper))
 
 -- a form h begins with the rows of f, where a seat has the sets, paths and pads that it has there, and behind them come rows without the seat's actions
 pub record KeepsSeat (f h : Form) (seat : ℕ) : Type 0 where

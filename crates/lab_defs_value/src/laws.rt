@@ -8,7 +8,10 @@ ghost use Rattle.lab_defs_value.specs.MatchingLaws.{
   ActionsLaw,
   ValueLaw,
   RegretLaw,
+  EarningLaw,
+  TallyLaw,
   RoundLaw,
+  SubgameLaw,
   GadgetLaw,
   AveragesLaw,
   CandidateLaw,
@@ -134,7 +137,14 @@ pub fn regrets()
     ensures there { ActionsLaw }
     ensures values { ValueLaw }
     ensures regrets { RegretLaw }
+    ensures earnings { EarningLaw }
+    ensures tallies { TallyLaw }
     ensures rounds { RoundLaw }
+{}
+
+/// A row of a subgame is worth by weights inside what the whole row is worth by the table with these weights in it.
+pub fn subgames()
+    ensures { SubgameLaw }
 {}
 
 /// A gadget leaves the keeper's sets, paths and pads as they are in the subgame, and puts the opponent's further sets first.
