@@ -13,25 +13,25 @@ use Rattle.lab_defs_value.specs.MatchingLaws.{GadgetLaw}
 
 -- ---- one row, where the keeper is the first seat or not
 
-keeps_path : (b : Bool) (path : List Taken) (z : Row) → cond b (with_path (cond b 2 1) path z).path1 (with_path (cond b 2 1) path z).path2 ≡ cond b z.path1 z.path2
+pub keeps_path : (b : Bool) (path : List Taken) (z : Row) → cond b (with_path (cond b 2 1) path z).path1 (with_path (cond b 2 1) path z).path2 ≡ cond b z.path1 z.path2
 keeps_path true path z = refl
 keeps_path false path z = refl
 
-has_path : (b : Bool) (path : List Taken) (z : Row) → path_of (with_path (cond b 2 1) path z) (cond b 2 1) ≡ path
+pub has_path : (b : Bool) (path : List Taken) (z : Row) → path_of (with_path (cond b 2 1) path z) (cond b 2 1) ≡ path
 has_path true path z = refl
 has_path false path z = refl
 
-ends_alone : (b : Bool) (rule : Rule) (factors i : ℕ) (limit : ℤ) → cond b (ending_row rule (cond b 2 1) factors i limit).path1 (ending_row rule (cond b 2 1) factors i limit).path2 ≡ []
+pub ends_alone : (b : Bool) (rule : Rule) (factors i : ℕ) (limit : ℤ) → cond b (ending_row rule (cond b 2 1) factors i limit).path1 (ending_row rule (cond b 2 1) factors i limit).path2 ≡ []
 ends_alone true rule factors i limit = refl
 ends_alone false rule factors i limit = refl
 
 -- ---- the sets
 
-keeper_sets : (b : Bool) (further : List ℕ) (f : Form) → cond b (with_further further (cond b 2 1) 1 f.actions1) (with_further further (cond b 2 1) 2 f.actions2) ≡ cond b f.actions1 f.actions2
+pub keeper_sets : (b : Bool) (further : List ℕ) (f : Form) → cond b (with_further further (cond b 2 1) 1 f.actions1) (with_further further (cond b 2 1) 2 f.actions2) ≡ cond b f.actions1 f.actions2
 keeper_sets true further f = refl
 keeper_sets false further f = refl
 
-opponent_sets : (b : Bool) (further : List ℕ) (f : Form)
+pub opponent_sets : (b : Bool) (further : List ℕ) (f : Form)
     → cond (eqb (cond b 2 1) 1) (with_further further (cond b 2 1) 1 f.actions1) (with_further further (cond b 2 1) 2 f.actions2) ≡ further ++ cond (eqb (cond b 2 1) 1) f.actions1 f.actions2
 opponent_sets true further f = refl
 opponent_sets false further f = refl
@@ -39,7 +39,7 @@ opponent_sets false further f = refl
 -- ---- all rows
 
 -- what is seen of images
-map_both : {X Y A : Type 0} (F : Y → A) (H : X → Y) (G : X → A) (xs : List X) → ((x : X) → F (H x) ≡ G x) → map F (map H xs) ≡ map G xs
+pub map_both : {X Y A : Type 0} (F : Y → A) (H : X → Y) (G : X → A) (xs : List X) → ((x : X) → F (H x) ≡ G x) → map F (map H xs) ≡ map G xs
 map_both F H G [] e = refl
 map_both F H G (x ∷ xs) e = ap (λ y. y ∷ map F (map H xs)) (e x) ∙ ap (λ ys. G x ∷ ys) (map_both F H G xs e)
 

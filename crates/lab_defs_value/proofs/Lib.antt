@@ -27,3 +27,6 @@ pub mod Rounds
 pub mod GadgetSets
 pub mod Earnings
 pub mod SubgameRows
+pub mod GadgetForms
+pub mod Entries
+pub mod GadgetLaws

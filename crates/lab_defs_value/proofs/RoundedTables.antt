@@ -24,7 +24,7 @@ abbrev pub all_weights : List ℕ → ℕ
 all_weights ns = first_weight ns (length ns)
 
 -- two lists of which all elements are so
-all_both_parts : {X : Type 0} (P : X → Type 0) (xs ys : List X) → AllByRecursion P xs → AllByRecursion P ys → AllByRecursion P (xs ++ ys)
+pub all_both_parts : {X : Type 0} (P : X → Type 0) (xs ys : List X) → AllByRecursion P xs → AllByRecursion P ys → AllByRecursion P (xs ++ ys)
 all_both_parts P [] ys p q = q
 all_both_parts P (x ∷ xs) ys p q = (p.0, all_both_parts P xs ys p.1 q)
 

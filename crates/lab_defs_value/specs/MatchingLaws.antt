@@ -1,5 +1,5 @@
 -- Laws of rounding, regret matching, gadgets and candidates.
-use Rattle.std.specs.Prelude.{◌≡◌, ◌⊎◌, ℕ, ◌+◌, ◌-◌, ◌<◌, ◌≤◌, ℤ, pos, ◌*ℤ◌, ◌-ℤ◌, List, [], ◌++◌, length, map, take, drop, replicate, true, All, slice_index}
+use Rattle.std.specs.Prelude.{◌≡◌, ◌⊎◌, ℕ, ◌+◌, ◌-◌, ◌<◌, ◌≤◌, ℤ, pos, ◌*ℤ◌, ◌-ℤ◌, List, [], ◌∷◌, ◌++◌, length, map, take, drop, replicate, true, All, slice_index}
 use Rattle.lab_math.specs.Sums.{sum_over}
 use Rattle.lab_math.specs.Below.{sum_below, total_below}
 use Rattle.lab_defs_text.specs.Games.{GameModel}
@@ -109,6 +109,18 @@ GadgetLaw = (rule : Rule) (keeper roots factors : ℕ) (limits : ℕ → ℤ) (f
     × (map (λ z. path_of z (other keeper)) (take (length f.rows) h.rows) ≡ map (λ z. entered rule (length (further_sets rule roots)) (path_of z (other keeper))) f.rows)
     × (map (λ (z : Row). z.worth) (take (length f.rows) h.rows) ≡ map (λ (z : Row). z.worth) f.rows)
     × (length h.rows ≡ length f.rows + roots)
+
+-- a path that has a step begins at one of the first sets, as many as there are roots
+abbrev pub BeginsBelow : ℕ → List Taken → Type 0
+BeginsBelow roots [] = Unit {0}
+BeginsBelow roots (t ∷ ts) = t.set < roots
+
+-- a gadget is a form, for both seats, where the subgame is one and the opponent enters it at root sets
+abbrev pub GadgetFormLaw : Type 0
+GadgetFormLaw = (rule : Rule) (keeper roots factors : ℕ) (limits : ℕ → ℤ) (f : Form) →
+    let h = gadget rule (other keeper) roots factors limits f in
+    (IsForm f keeper → IsForm h keeper)
+    × (IsForm f (other keeper) → 1 ≤ roots → All (λ z. BeginsBelow roots (path_of z (other keeper))) f.rows → IsForm h (other keeper))
 
 -- the averages over any number of rounds are tables
 abbrev pub AveragesLaw : Type 0

@@ -13,6 +13,7 @@ ghost use Rattle.lab_defs_value.specs.MatchingLaws.{
   RoundLaw,
   SubgameLaw,
   GadgetLaw,
+  GadgetFormLaw,
   AveragesLaw,
   CandidateLaw,
   SolvedLaw,
@@ -147,9 +148,11 @@ pub fn subgames()
     ensures { SubgameLaw }
 {}
 
-/// A gadget leaves the keeper's sets, paths and pads as they are in the subgame, and puts the opponent's further sets first.
+/// A gadget leaves the keeper's sets, paths and pads as they are in the subgame, and puts the opponent's further sets first;
+/// it is a form where the subgame is one.
 pub fn gadgets()
-    ensures { GadgetLaw }
+    ensures keeps { GadgetLaw }
+    ensures forms { GadgetFormLaw }
 {}
 
 /// What regret matching finds are tables, also on a gadget, after any number of rounds.

@@ -1,5 +1,9 @@
 use Rattle.lab_defs_value.proofs.GadgetSets.{gadget_law}
+use Rattle.lab_defs_value.proofs.GadgetLaws.{gadget_form_law}
 use Rattle.lab_defs_value.proofs.laws.gadgets.Goals as goal
 
-pub returns : goal.returns
-returns c = gadget_law
+pub returns-clause-keeps : goal.returns-clause-keeps
+returns-clause-keeps c = gadget_law
+
+pub returns-clause-forms : goal.returns-clause-forms
+returns-clause-forms c = gadget_form_law
