@@ -154,12 +154,12 @@ step_front : (front ns : List ℕ) (t : Taken) → IsStepBelow front (length fro
 step_front front ns t h = (omega (arith, length-append front ns, h.0), subst (λ n. t.action < n) (sym (get_or_append_left front ns 0 t.set h.0)) h.1)
 
 -- what passes behind a step passes
-or_true : (b c : Bool) → c ≡ true → (b || c) ≡ true
+pub or_true : (b c : Bool) → c ≡ true → (b || c) ≡ true
 or_true true c e = refl
 or_true false c e = e
 
 -- what passes through a set of a path that is there is there
-any_of_in : (J : ℕ) (paths : List (List Taken)) (p : List Taken) → In p paths → passes_through J p ≡ true → list_any (passes_through J) paths ≡ true
+pub any_of_in : (J : ℕ) (paths : List (List Taken)) (p : List Taken) → In p paths → passes_through J p ≡ true → list_any (passes_through J) paths ≡ true
 any_of_in J [] p i e = absurd i
 any_of_in J (q ∷ qs) p (inl same) e = ap (λ c. c || list_any (passes_through J) qs) (ap (passes_through J) same ∙ e)
 any_of_in J (q ∷ qs) p (inr i) e = or_true (passes_through J q) (list_any (passes_through J) qs) (any_of_in J qs p i e)

@@ -17,7 +17,7 @@ use Rattle.lab_defs_value.proofs.GadgetForms.{path_same, keeper_form}
 use Rattle.lab_defs_value.proofs.Entries.{parent_along, further_some, entered_form}
 
 -- the parents by rows are those along their paths
-rows_along : (seat I : ℕ) (rows : List Row) → parent_in rows seat I ≡ parent_along (map (λ z. path_of z seat) rows) I
+pub rows_along : (seat I : ℕ) (rows : List Row) → parent_in rows seat I ≡ parent_along (map (λ z. path_of z seat) rows) I
 rows_along seat I [] = refl
 rows_along seat I (z ∷ zs) = ap (λ t. cond (passes_through I (path_of z seat)) (step_before I None (path_of z seat)) t) (rows_along seat I zs)
 
@@ -27,7 +27,7 @@ all_of_map Q g [] h = tt
 all_of_map Q g (x ∷ xs) h = (h.0, all_of_map Q g xs h.1)
 
 -- a form by the paths of a seat
-form_along : (ns : List ℕ) (seat : ℕ) (rows : List Row) → AllByRecursion (IsPath ns (parent_along (map (λ z. path_of z seat) rows)) None) (map (λ z. path_of z seat) rows)
+pub form_along : (ns : List ℕ) (seat : ℕ) (rows : List Row) → AllByRecursion (IsPath ns (parent_along (map (λ z. path_of z seat) rows)) None) (map (λ z. path_of z seat) rows)
     → AllByRecursion (λ z. IsPath ns (parent_in rows seat) None (path_of z seat)) rows
 form_along ns seat rows h =
     all_of_map (IsPath ns (parent_in rows seat) None) (λ z. path_of z seat) rows

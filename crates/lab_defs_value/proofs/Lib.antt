@@ -30,3 +30,4 @@ pub mod SubgameRows
 pub mod GadgetForms
 pub mod Entries
 pub mod GadgetLaws
+pub mod GameForms

@@ -1,9 +1,11 @@
 -- Laws of rounding, regret matching, gadgets and candidates.
-use Rattle.std.specs.Prelude.{◌≡◌, ◌⊎◌, ℕ, ◌+◌, ◌-◌, ◌<◌, ◌≤◌, ℤ, pos, ◌*ℤ◌, ◌-ℤ◌, List, [], ◌∷◌, ◌++◌, length, map, take, drop, replicate, true, All, slice_index}
+use Rattle.std.specs.Prelude.{◌≡◌, ◌⊎◌, ℕ, ◌+◌, ◌-◌, ◌<◌, ◌≤◌, ℤ, pos, ◌*ℤ◌, ◌-ℤ◌, List, [], ◌∷◌, ◌++◌, length, map, take, drop, replicate, true, All, None, slice_index}
 use Rattle.lab_math.specs.Sums.{sum_over}
 use Rattle.lab_math.specs.Below.{sum_below, total_below}
 use Rattle.lab_defs_text.specs.Games.{GameModel}
-use Rattle.lab_defs_game.specs.Forms.{Taken, Row, Form, game_actions, actions_of, path_of, pad_of, decides, deciding}
+use Rattle.lab_defs_text.specs.Texts.{game_ok}
+use Rattle.lab_defs_game.specs.Recall.{recall_fault}
+use Rattle.lab_defs_game.specs.Forms.{Taken, Row, Form, form_of, game_actions, actions_of, path_of, pad_of, decides, deciding}
 use Rattle.lab_defs_value.specs.Rounding.{rounded}
 use Rattle.lab_defs_value.specs.Tables.{first_weight, own_weight, uniform_table}
 use Rattle.lab_defs_value.specs.Expectation.{grid_of}
@@ -38,6 +40,10 @@ ZeroSharesLaw = (grid : ℕ) (actions : List ℕ) → rounded_table grid actions
 -- each action on the paths of a seat is one of its set's
 abbrev pub HasActions : Form → ℕ → Type 0
 HasActions f seat = All (λ (z : Row). All (λ (t : Taken). t.action < slice_index (actions_of f seat) t.set) (path_of z seat)) f.rows
+
+-- an accepted game is a form for both seats
+abbrev pub GameFormLaw : Type 0
+GameFormLaw = (g : GameModel) → game_ok g ≡ true → recall_fault g ≡ None → IsForm (form_of g) 1 × IsForm (form_of g) 2
 
 -- so it is in a form
 abbrev pub ActionsLaw : Type 0

@@ -5,6 +5,7 @@ ghost use Rattle.lab_defs_value.specs.MatchingLaws.{
   RoundedLaw,
   RoundedTableLaw,
   ZeroSharesLaw,
+  GameFormLaw,
   ActionsLaw,
   ValueLaw,
   RegretLaw,
@@ -141,6 +142,11 @@ pub fn regrets()
     ensures earnings { EarningLaw }
     ensures tallies { TallyLaw }
     ensures rounds { RoundLaw }
+{}
+
+/// The rows of an accepted game are a form for both seats.
+pub fn games()
+    ensures { GameFormLaw }
 {}
 
 /// A row of a subgame is worth by weights inside what the whole row is worth by the table with these weights in it.
