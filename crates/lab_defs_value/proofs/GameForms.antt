@@ -31,12 +31,12 @@ use Rattle.lab_defs_value.proofs.Entries.{parent_along, or_true, any_of_in}
 -- ---- one more step at the end of a path
 
 -- it is the last one
-last_push : (before : Option Taken) (p : List Taken) (t : Taken) → last_after before (p ++ t ∷ []) ≡ Some t
+pub last_push : (before : Option Taken) (p : List Taken) (t : Taken) → last_after before (p ++ t ∷ []) ≡ Some t
 last_push before [] t = refl
 last_push before (u ∷ p) t = last_push (Some u) p t
 
 -- where the path came to a set, the step before it is the same
-before_passed : (I : ℕ) (before : Option Taken) (p : List Taken) (t : Taken) → passes_through I p ≡ true → step_before I before (p ++ t ∷ []) ≡ step_before I before p
+pub before_passed : (I : ℕ) (before : Option Taken) (p : List Taken) (t : Taken) → passes_through I p ≡ true → step_before I before (p ++ t ∷ []) ≡ step_before I before p
 before_passed I before [] t e = cc
 before_passed I before (u ∷ p) t e = at (eqb u.set I) e (before_passed I (Some u) p t)
   where
@@ -46,7 +46,7 @@ before_passed I before (u ∷ p) t e = at (eqb u.set I) e (before_passed I (Some
     at false e rest = rest e
 
 -- where it comes there only now, the step before is its last one
-before_now : (I : ℕ) (before : Option Taken) (p : List Taken) (t : Taken) → passes_through I p ≡ false → eqb t.set I ≡ true → step_before I before (p ++ t ∷ []) ≡ last_after before p
+pub before_now : (I : ℕ) (before : Option Taken) (p : List Taken) (t : Taken) → passes_through I p ≡ false → eqb t.set I ≡ true → step_before I before (p ++ t ∷ []) ≡ last_after before p
 before_now I before [] t e h = ap (λ b. cond b before None) h
 before_now I before (u ∷ p) t e h = at (eqb u.set I) e (λ k. before_now I (Some u) p t k h)
   where
@@ -56,7 +56,7 @@ before_now I before (u ∷ p) t e h = at (eqb u.set I) e (λ k. before_now I (So
     at false e rest = rest e
 
 -- a path goes on from its last step
-path_push : (ns : List ℕ) (parent : ℕ → Option Taken) (before : Option Taken) (p : List Taken) (t : Taken) → IsPath ns parent before p
+pub path_push : (ns : List ℕ) (parent : ℕ → Option Taken) (before : Option Taken) (p : List Taken) (t : Taken) → IsPath ns parent before p
     → parent t.set ≡ last_after before p → ComesAfter (last_after before p) t.set → IsStepBelow ns (length ns) (Some t) → IsPath ns parent before (p ++ t ∷ [])
 path_push ns parent before [] t h e c s = (e, c, s, tt)
 path_push ns parent before (u ∷ p) t h e c s = (h.0, h.1, h.2, path_push ns parent (Some u) p t h.3 e c s)
@@ -65,7 +65,7 @@ path_push ns parent before (u ∷ p) t h e c s = (h.0, h.1, h.2, path_push ns pa
 
 module _ (g : GameModel) (seat : ℕ) where
   -- the step of a seat from a history on
-  abbrev taken_at : History → Step → Taken
+  abbrev pub taken_at : History → Step → Taken
   taken_at k s = record { set = set_number g seat (seen g seat k); action = if seat == 1 then s.action1 else s.action2 }
 
   -- the last step along a history is the parent of what has been seen
@@ -80,10 +80,10 @@ module _ (g : GameModel) (seat : ℕ) where
           (ap last_step (along_law g seat r.before r.step).0 ∙ last_push None (path_along g seat r.before) t ∙ sym (along_law g seat r.before r.step).1)
 
   -- one step further along a history
-  longer_path : (h : History) (r : Longer g (histories g) h) → path_along g seat h ≡ path_along g seat r.before ++ taken_at r.before r.step ∷ []
+  pub longer_path : (h : History) (r : Longer g (histories g) h) → path_along g seat h ≡ path_along g seat r.before ++ taken_at r.before r.step ∷ []
   longer_path h r = ap (path_along g seat) r.made ∙ (along_law g seat r.before r.step).0
 
-  shorter : (n : ℕ) (h : History) (r : Longer g (histories g) h) → length h ≤ suc n → length r.before ≤ n
+  pub shorter : (n : ℕ) (h : History) (r : Longer g (histories g) h) → length h ≤ suc n → length r.before ≤ n
   shorter n h r le = let len : length h ≡ length r.before + 1 = ap length r.made ∙ length_push r.before r.step in omega (arith, le, len)
 
   -- the step before a set on the path of a history is its parent
@@ -135,7 +135,7 @@ module _ (g : GameModel) (seat : ℕ) where
       at false q some rest = rest some
 
   -- a parent has the lower number
-  parent_after : (k : History) → In k (inner_histories g) → ComesAfter (parent g seat (seen g seat k)) (set_number g seat (seen g seat k))
+  pub parent_after : (k : History) → In k (inner_histories g) → ComesAfter (parent g seat (seen g seat k)) (set_number g seat (seen g seat k))
   parent_after k j = at (seen_cases g seat k (inner_world g k j).0)
     where
       at : (seen g seat k ≡ []) ⊎ Follows g seat (seen g seat k) → ComesAfter (parent g seat (seen g seat k)) (set_number g seat (seen g seat k))
@@ -143,7 +143,7 @@ module _ (g : GameModel) (seat : ℕ) where
       at (inr f) = subst (λ o. ComesAfter o (set_number g seat (seen g seat k))) (sym (parent_is g seat (seen g seat k) f)) (parent_before g seat (seen g seat k) f)
 
   -- a step from a history on is an action of its set
-  taken_there : AlikeNames g seat → (seat ≡ 1) ⊎ (seat ≡ 2) → (k : History) → In k (inner_histories g) → (s : Step) → In s (steps_of (place_of g k))
+  pub taken_there : AlikeNames g seat → (seat ≡ 1) ⊎ (seat ≡ 2) → (k : History) → In k (inner_histories g) → (s : Step) → In s (steps_of (place_of g k))
       → IsStepBelow (game_actions g seat) (length (game_actions g seat)) (Some (taken_at k s))
   taken_there alike is k j s i = (
     subst (λ n. set_number g seat (seen g seat k) < n) (sym (length-map (sets g seat) (set_actions g seat))) (set_below g seat k j),
@@ -195,7 +195,7 @@ module _ (g : GameModel) (seat : ℕ) where
       (λ J e. any_of_in J paths (path_along g seat h) (in_map (path_along g seat) ends h i) e)))
 
   -- each set has an action
-  sets_some : game_ok g ≡ true → AlikeNames g seat → (J : ℕ) → J < length (game_actions g seat) → 1 ≤ slice_index (game_actions g seat) J
+  pub sets_some : game_ok g ≡ true → AlikeNames g seat → (J : ℕ) → J < length (game_actions g seat) → 1 ≤ slice_index (game_actions g seat) J
   sets_some ok alike J l =
       let l' : J < length (sets g seat) = subst (λ n. J < n) (length-map (sets g seat) (set_actions g seat)) l in
       let s = get_or (sets g seat) J [] in

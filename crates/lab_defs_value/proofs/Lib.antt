@@ -31,3 +31,4 @@ pub mod GadgetForms
 pub mod Entries
 pub mod GadgetLaws
 pub mod GameForms
+pub mod SubgameForms

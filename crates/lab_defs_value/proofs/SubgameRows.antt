@@ -17,7 +17,7 @@ use Rattle.lab_defs_value.proofs.Splicing.{splice_law, factor_outside}
 -- ---- the sets of a span
 
 -- a set inside has the actions that it has
-set_inside : (ns : List ℕ) (start end J : ℕ) → start ≤ J → J < end → slice_index (slice_range ns start end) (J - start) ≡ slice_index ns J
+pub set_inside : (ns : List ℕ) (start end J : ℕ) → start ≤ J → J < end → slice_index (slice_range ns start end) (J - start) ≡ slice_index ns J
 set_inside ns start end J ge l =
     let same : start + (J - start) ≡ J = omega (arith, ge) in
     get_or-take (end - start) (drop start ns) (J - start) 0 (omega (arith, ge, l)) ∙ get_or-drop start ns (J - start) 0 ∙ ap (λ k. get_or ns k 0) same

@@ -14,7 +14,7 @@ use Rattle.lab_defs_value.specs.Replies.{IsTable, other, reply_by, factors_in, e
 use Rattle.lab_defs_value.specs.WholeLaws.{SumsToGrid}
 use Rattle.lab_defs_value.specs.Allowances.{Rule}
 use Rattle.lab_defs_value.specs.Splices.{FitsSpan, spliced}
-use Rattle.lab_defs_value.specs.Subgames.{span_at, span_actions, Part, span_of, subgame_row}
+use Rattle.lab_defs_value.specs.Subgames.{span_at, span_actions, Part, span_of, subgame_row, subgame_form}
 use Rattle.lab_defs_value.specs.Gadgets.{further_sets, entered, gadget}
 use Rattle.lab_defs_value.specs.Matching.{rounded_table, Pair, grid_in, table_in, sets_in, weight_in, action_value, set_value, zeros, Tally, tally_after, pair_of, averages}
 use Rattle.lab_defs_value.specs.Candidates.{candidate, solved_tables}
@@ -98,6 +98,11 @@ SubgameLaw = (p : Part) (grid : ℕ) (weights : List ℕ) (z : Row) → (p.keepe
     FitsSpan s.actions s.start s.end p.table weights → All (λ (t : Taken). t.action < slice_index s.actions t.set) (path_of z p.keeper)
     → inner.worth *ℤ pos (own_weight grid (span_actions s) weights (path_of inner p.keeper) (pad_of inner p.keeper))
     ≡ z.worth *ℤ pos (own_weight grid s.actions (spliced s.actions s.start s.end p.table weights) (path_of z p.keeper) (pad_of z p.keeper))
+
+-- in an accepted game the subgame of a node is a form for both seats
+abbrev pub SubgameFormLaw : Type 0
+SubgameFormLaw = (g : GameModel) (keeper : ℕ) (node table : List ℕ) → game_ok g ≡ true → recall_fault g ≡ None
+    → IsForm (subgame_form g keeper node table) 1 × IsForm (subgame_form g keeper node table) 2
 
 -- a form h begins with the rows of f, where a seat has the sets, paths and pads that it has there, and behind them come rows without the seat's actions
 pub record KeepsSeat (f h : Form) (seat : ℕ) : Type 0 where

@@ -13,6 +13,7 @@ ghost use Rattle.lab_defs_value.specs.MatchingLaws.{
   TallyLaw,
   RoundLaw,
   SubgameLaw,
+  SubgameFormLaw,
   GadgetLaw,
   GadgetFormLaw,
   AveragesLaw,
@@ -149,9 +150,11 @@ pub fn games()
     ensures { GameFormLaw }
 {}
 
-/// A row of a subgame is worth by weights inside what the whole row is worth by the table with these weights in it.
+/// A row of a subgame is worth by weights inside what the whole row is worth by the table with these weights in it;
+/// the subgames of an accepted game are forms for both seats.
 pub fn subgames()
-    ensures { SubgameLaw }
+    ensures worths { SubgameLaw }
+    ensures forms { SubgameFormLaw }
 {}
 
 /// A gadget leaves the keeper's sets, paths and pads as they are in the subgame, and puts the opponent's further sets first;
