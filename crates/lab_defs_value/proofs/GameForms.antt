@@ -8,7 +8,7 @@ use Rattle.lab_math.proofs.Elements.{all_map}
 use Rattle.lab_math.proofs.BelowLemmas.{eqb_self}
 use Rattle.lab_math.proofs.Members.{In, all_from_in, in_get_or, in_from_filter, in_map}
 use Rattle.lab_defs_text.specs.Games.{GameModel}
-use Rattle.lab_defs_text.specs.Texts.{game_ok, is_world}
+use Rattle.lab_defs_text.specs.Texts.{game_ok}
 use Rattle.lab_defs_game.specs.Histories.{History, Step, place_of, reached, actions_at, histories, inner_histories, terminal_histories, is_terminal, steps_of}
 use Rattle.lab_defs_game.specs.Sets.{seen, sets, set_cmp, set_number, set_actions}
 use Rattle.lab_defs_game.specs.Forms.{Taken, Row, game_actions, path_along, path_of, row_along, form_of}
@@ -21,7 +21,7 @@ use Rattle.lab_defs_game.proofs.Legal.{step_from}
 use Rattle.lab_defs_game.proofs.TreeLaws.{along_law}
 use Rattle.lab_defs_game.proofs.RecallLemmas.{recall_law, inner_world}
 use Rattle.lab_defs_game.proofs.FormLemmas.{actions_of_set, set_below, world_ok, some_action}
-use Rattle.lab_defs_value.specs.Parents.{passes_through, step_before, parent_in, last_after, last_step, ComesAfter, IsStepBelow, IsPath, IsForm}
+use Rattle.lab_defs_value.specs.Parents.{passes_through, step_before, parent_in, last_after, last_step, ComesAfter, IsStepBelow, IsPath}
 use Rattle.lab_defs_value.specs.MatchingLaws.{GameFormLaw}
 use Rattle.lab_defs_value.proofs.WholePaths.{passes_push}
 use Rattle.lab_defs_value.proofs.GadgetSets.{map_both}
@@ -215,14 +215,15 @@ game_form_law g ok recalls =
     let alike = (recall_law g).0 recalls in
     let ends = terminal_histories g in
     let one : map (λ z. path_of z 1) (form_of g).rows ≡ map (path_along g 1) ends = map_both (λ z. path_of z 1) (row_along g) (path_along g 1) ends (λ h. refl) in
-    let two : map (λ z. path_of z 2) (form_of g).rows ≡ map (path_along g 2) ends = map_both (λ z. path_of z 2) (row_along g) (path_along g 2) ends (λ h. refl) in
-    (record {
-      some_action = sets_some g 1 ok alike.0;
-      paths = All-from_recursion (λ (z : Row). IsPath (game_actions g 1) (parent_in (form_of g).rows 1) None (path_of z 1)) (form_of g).rows (form_along (game_actions g 1) 1 (form_of g).rows
-      (subst (λ ps. AllByRecursion (IsPath (game_actions g 1) (parent_along ps) None) ps) (sym one) (paths_ok g 1 alike.0 (inl refl))));
-    },
+    let two : map (λ z. path_of z 2) (form_of g).rows ≡ map (path_along g 2) ends = map_both (λ z. path_of z 2) (row_along g) (path_along g 2) ends (λ h. refl) in (
+      record {
+        some_action = sets_some g 1 ok alike.0;
+        paths = All-from_recursion (λ (z : Row). IsPath (game_actions g 1) (parent_in (form_of g).rows 1) None (path_of z 1)) (form_of g).rows (form_along (game_actions g 1) 1 (form_of g).rows
+            (subst (λ ps. AllByRecursion (IsPath (game_actions g 1) (parent_along ps) None) ps) (sym one) (paths_ok g 1 alike.0 (inl refl))));
+      },
       record {
         some_action = sets_some g 2 ok alike.1;
         paths = All-from_recursion (λ (z : Row). IsPath (game_actions g 2) (parent_in (form_of g).rows 2) None (path_of z 2)) (form_of g).rows (form_along (game_actions g 2) 2 (form_of g).rows
-        (subst (λ ps. AllByRecursion (IsPath (game_actions g 2) (parent_along ps) None) ps) (sym two) (paths_ok g 2 alike.1 (inr refl))));
-      })
+            (subst (λ ps. AllByRecursion (IsPath (game_actions g 2) (parent_along ps) None) ps) (sym two) (paths_ok g 2 alike.1 (inr refl))));
+      },
+    )

@@ -32,3 +32,4 @@ pub mod Entries
 pub mod GadgetLaws
 pub mod GameForms
 pub mod SubgameForms
+pub mod GameGadgets

@@ -1,19 +1,18 @@
 -- In an accepted game a subgame is a form.
-use Rattle.std.proofs.Common.{◌≡◌, ℕ, zero, suc, ◌+◌, ◌-◌, ◌<◌, ◌≤◌, List, [], ◌∷◌, ◌++◌, length, map, filter, take, drop, get_or, Bool, true, false, cond, eqb, ◌&&◌, ◌||◌, Option, Some, None, refl, sym, ap, ◌∙◌, subst, arith, inl, inr, ◌⊎◌, eqb-true}
-use Rattle.std.specs.Prelude.{slice_index, slice_range, nat_le, nat_lt}
+use Rattle.std.proofs.Common.{◌≡◌, ℕ, zero, suc, ◌+◌, ◌-◌, ◌<◌, ◌≤◌, List, [], ◌∷◌, ◌++◌, length, map, filter, drop, get_or, Bool, true, false, cond, eqb, ◌&&◌, ◌||◌, Option, Some, None, refl, sym, ap, ◌∙◌, subst, arith, inl, inr, ◌⊎◌, eqb-true}
+use Rattle.std.specs.Prelude.{slice_index, nat_le, nat_lt}
 use Rattle.std.specs.List.{AllByRecursion, list_any}
 use Rattle.std.proofs.lemmas.Bool.{and_parts, leb-true, ltb-true, le-leb, lt-ltb}
-use Rattle.std.proofs.lemmas.List.{append-nil, map-append, length-map, length-take, length-drop, get_or-take, get_or-drop}
+use Rattle.std.proofs.lemmas.List.{append-nil, map-append, length-take, length-drop, get_or-take, get_or-drop}
 use Rattle.std.proofs.lemmas.List.Elements.{All-from_recursion, filter-append}
 use Rattle.lab_math.proofs.BelowLemmas.{eqb_self}
 use Rattle.lab_math.proofs.Elements.{all_map}
 use Rattle.lab_math.proofs.Members.{In, all_from_in, in_from_filter, in_map}
 use Rattle.lab_defs_text.specs.Games.{GameModel}
-use Rattle.lab_defs_text.specs.Texts.{game_ok}
-use Rattle.lab_defs_game.specs.Histories.{History, Step, reached, place_of, outcome_of, histories, inner_histories, terminal_histories, is_terminal}
-use Rattle.lab_defs_game.specs.Sets.{seen, sets, set_cmp, set_number, set_actions, public_list, publics}
-use Rattle.lab_defs_game.specs.Forms.{Taken, Row, game_actions, path_along, path_of, row_along}
-use Rattle.lab_defs_game.specs.Nodes.{parent, begins, span_from, span_to}
+use Rattle.lab_defs_game.specs.Histories.{History, Step, reached, outcome_of, histories, inner_histories, terminal_histories, is_terminal}
+use Rattle.lab_defs_game.specs.Sets.{seen, sets, set_cmp, set_number, public_list, publics}
+use Rattle.lab_defs_game.specs.Forms.{Taken, Row, path_along, path_of, row_along}
+use Rattle.lab_defs_game.specs.Nodes.{parent, begins}
 use Rattle.lab_defs_game.specs.Laws.{AlikeNames}
 use Rattle.lab_defs_game.proofs.NumberLemmas.{number_same, at_number}
 use Rattle.lab_defs_game.proofs.Orders.{set_total}
@@ -23,7 +22,7 @@ use Rattle.lab_defs_game.proofs.GameLemmas.{Longer, history_cases, before_inner,
 use Rattle.lab_defs_game.proofs.TreeLaws.{along_law}
 use Rattle.lab_defs_game.proofs.RecallLemmas.{recall_law}
 use Rattle.lab_defs_game.proofs.FormLemmas.{set_below}
-use Rattle.lab_defs_value.specs.Parents.{passes_through, step_before, parent_in, last_step, ComesAfter, IsStepBelow, IsPath, IsForm}
+use Rattle.lab_defs_value.specs.Parents.{passes_through, step_before, parent_in, last_step, ComesAfter, IsStepBelow, IsPath}
 use Rattle.lab_defs_value.specs.Subgames.{Span, span_at, is_inside, inside, renumbered, span_actions, part_at, subgame_row, subgame_ends, subgame_form}
 use Rattle.lab_defs_value.specs.MatchingLaws.{SubgameFormLaw}
 use Rattle.lab_defs_value.proofs.WholePaths.{passes_push}
@@ -58,10 +57,10 @@ inner_push s p t =
     at false = refl
 
 -- where it is inside it is there at the end, and else nothing is
-push_inside : (s : Span) (p : List Taken) (t : Taken) → is_inside s t ≡ true → inner s (p ++ t ∷ []) ≡ inner s p ++ lowered s t ∷ []
+pub push_inside : (s : Span) (p : List Taken) (t : Taken) → is_inside s t ≡ true → inner s (p ++ t ∷ []) ≡ inner s p ++ lowered s t ∷ []
 push_inside s p t e = inner_push s p t ∙ ap (λ b. inner s p ++ cond b (lowered s t ∷ []) []) e
 
-push_outside : (s : Span) (p : List Taken) (t : Taken) → is_inside s t ≡ false → inner s (p ++ t ∷ []) ≡ inner s p
+pub push_outside : (s : Span) (p : List Taken) (t : Taken) → is_inside s t ≡ false → inner s (p ++ t ∷ []) ≡ inner s p
 push_outside s p t e = inner_push s p t ∙ ap (λ b. inner s p ++ cond b (lowered s t ∷ []) []) e ∙ append-nil (inner s p)
 
 -- what is inside lies between the ends
@@ -69,7 +68,7 @@ inside_range : (s : Span) (t : Taken) → is_inside s t ≡ true → (s.start �
 inside_range s t e = let both = and_parts (nat_le s.start t.set) (nat_lt t.set s.end) e in (leb-true s.start t.set both.0, ltb-true t.set s.end both.1)
 
 -- two tests that follow from each other are one
-same_test : (a b : Bool) → (b ≡ true → a ≡ true) → (a ≡ true → b ≡ true) → a ≡ b
+pub same_test : (a b : Bool) → (b ≡ true → a ≡ true) → (a ≡ true → b ≡ true) → a ≡ b
 same_test true true p q = refl
 same_test true false p q = sym (q refl)
 same_test false true p q = p refl
@@ -101,7 +100,7 @@ span_some s some J l =
 
 module _ (g : GameModel) (seat : ℕ) (node : List ℕ) where
   -- the span of the subgame
-  abbrev span : Span
+  abbrev pub span : Span
   span = span_at g seat node
 
   -- the part of a history's path in it
@@ -109,7 +108,7 @@ module _ (g : GameModel) (seat : ℕ) (node : List ℕ) where
   inner_along h = inner span (path_along g seat h)
 
   -- a step from a history on is inside where the node begins its public list
-  inside_is : (k : History) (s : Step) → In k (inner_histories g) → is_inside span (taken_at g seat k s) ≡ begins node (public_list g k)
+  pub inside_is : (k : History) (s : Step) → In k (inner_histories g) → is_inside span (taken_at g seat k s) ≡ begins node (public_list g k)
   inside_is k s j =
       let number = set_number g seat (seen g seat k) in
       let there = span_is g seat node number [] (set_below g seat k j) in
@@ -120,7 +119,7 @@ module _ (g : GameModel) (seat : ℕ) (node : List ℕ) where
       (λ e. sym (ap (begins node) same) ∙ there.1 (inside_range span (taken_at g seat k s) e))
 
   -- where the node does not begin the public list of a history, nothing of its path is inside
-  none_inside : (n : ℕ) (h : History) → length h ≤ n → In h (histories g) → begins node (public_list g h) ≡ false → inner_along h ≡ []
+  pub none_inside : (n : ℕ) (h : History) → length h ≤ n → In h (histories g) → begins node (public_list g h) ≡ false → inner_along h ≡ []
   none_inside zero [] le i e = refl
   none_inside zero (s ∷ h) le i e = absurd (omega (arith, le))
   none_inside (suc n) h le i e = at (history_cases g h i) (λ h l i e. none_inside n h l i e)
@@ -284,14 +283,15 @@ subgame_form_law g keeper node table ok recalls =
     let one : map (λ z. path_of z 1) f.rows ≡ map (inner_along g 1 node) ends = map_both (λ z. path_of z 1) row (inner_along g 1 node) ends (λ h. refl) in
     let two : map (λ z. path_of z 2) f.rows ≡ map (inner_along g 2 node) ends = map_both (λ z. path_of z 2) row (inner_along g 2 node) ends (λ h. refl) in
     let sets1 = span_actions (span_at g 1 node) in
-    let sets2 = span_actions (span_at g 2 node) in
-    (record {
-      some_action = span_some (span_at g 1 node) (sets_some g 1 ok alike.0);
-      paths = All-from_recursion (λ (z : Row). IsPath sets1 (parent_in f.rows 1) None (path_of z 1)) f.rows (form_along sets1 1 f.rows
-      (subst (λ ps. AllByRecursion (IsPath sets1 (parent_along ps) None) ps) (sym one) (paths_inside g 1 node alike.0 (inl refl))));
-    },
+    let sets2 = span_actions (span_at g 2 node) in (
+      record {
+        some_action = span_some (span_at g 1 node) (sets_some g 1 ok alike.0);
+        paths = All-from_recursion (λ (z : Row). IsPath sets1 (parent_in f.rows 1) None (path_of z 1)) f.rows (form_along sets1 1 f.rows
+            (subst (λ ps. AllByRecursion (IsPath sets1 (parent_along ps) None) ps) (sym one) (paths_inside g 1 node alike.0 (inl refl))));
+      },
       record {
         some_action = span_some (span_at g 2 node) (sets_some g 2 ok alike.1);
         paths = All-from_recursion (λ (z : Row). IsPath sets2 (parent_in f.rows 2) None (path_of z 2)) f.rows (form_along sets2 2 f.rows
-        (subst (λ ps. AllByRecursion (IsPath sets2 (parent_along ps) None) ps) (sym two) (paths_inside g 2 node alike.1 (inr refl))));
-      })
+            (subst (λ ps. AllByRecursion (IsPath sets2 (parent_along ps) None) ps) (sym two) (paths_inside g 2 node alike.1 (inr refl))));
+      },
+    )

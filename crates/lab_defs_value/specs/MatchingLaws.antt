@@ -12,10 +12,10 @@ use Rattle.lab_defs_value.specs.Expectation.{grid_of}
 use Rattle.lab_defs_value.specs.Parents.{IsForm}
 use Rattle.lab_defs_value.specs.Replies.{IsTable, other, reply_by, factors_in, earned}
 use Rattle.lab_defs_value.specs.WholeLaws.{SumsToGrid}
-use Rattle.lab_defs_value.specs.Allowances.{Rule}
+use Rattle.lab_defs_value.specs.Allowances.{Rule, node_sets}
 use Rattle.lab_defs_value.specs.Splices.{FitsSpan, spliced}
 use Rattle.lab_defs_value.specs.Subgames.{span_at, span_actions, Part, span_of, subgame_row, subgame_form}
-use Rattle.lab_defs_value.specs.Gadgets.{further_sets, entered, gadget}
+use Rattle.lab_defs_value.specs.Gadgets.{further_sets, entered, gadget, gadget_form}
 use Rattle.lab_defs_value.specs.Matching.{rounded_table, Pair, grid_in, table_in, sets_in, weight_in, action_value, set_value, zeros, Tally, tally_after, pair_of, averages}
 use Rattle.lab_defs_value.specs.Candidates.{candidate, solved_tables}
 
@@ -132,6 +132,11 @@ GadgetFormLaw = (rule : Rule) (keeper roots factors : ℕ) (limits : ℕ → ℤ
     let h = gadget rule (other keeper) roots factors limits f in
     (IsForm f keeper → IsForm h keeper)
     × (IsForm f (other keeper) → 1 ≤ roots → All (λ z. BeginsBelow roots (path_of z (other keeper))) f.rows → IsForm h (other keeper))
+
+-- so in an accepted game the gadget for a node where the opponent has a set is a form
+abbrev pub GameGadgetLaw : Type 0
+GameGadgetLaw = (g : GameModel) (rule : Rule) (keeper : ℕ) (node table : List ℕ) (bounds : List ℤ) → game_ok g ≡ true → recall_fault g ≡ None → (keeper ≡ 1) ⊎ (keeper ≡ 2)
+    → 1 ≤ length (node_sets g (other keeper) node) → IsForm (gadget_form g rule keeper node table bounds) 1 × IsForm (gadget_form g rule keeper node table bounds) 2
 
 -- the averages over any number of rounds are tables
 abbrev pub AveragesLaw : Type 0

@@ -16,6 +16,7 @@ ghost use Rattle.lab_defs_value.specs.MatchingLaws.{
   SubgameFormLaw,
   GadgetLaw,
   GadgetFormLaw,
+  GameGadgetLaw,
   AveragesLaw,
   CandidateLaw,
   SolvedLaw,
@@ -158,10 +159,11 @@ pub fn subgames()
 {}
 
 /// A gadget leaves the keeper's sets, paths and pads as they are in the subgame, and puts the opponent's further sets first;
-/// it is a form where the subgame is one.
+/// it is a form where the subgame is one, and so in an accepted game.
 pub fn gadgets()
     ensures keeps { GadgetLaw }
     ensures forms { GadgetFormLaw }
+    ensures games { GameGadgetLaw }
 {}
 
 /// What regret matching finds are tables, also on a gadget, after any number of rounds.
