@@ -37,15 +37,15 @@ RoundedTableLaw = (grid : ℕ) (actions : List ℕ) (shares : List ℤ) → leng
 abbrev pub ZeroSharesLaw : Type 0
 ZeroSharesLaw = (grid : ℕ) (actions : List ℕ) → rounded_table grid actions (zeros actions) ≡ uniform_table grid actions
 
--- each action on the paths of a seat is one of its set's
-abbrev pub HasActions : Form → ℕ → Type 0
-HasActions f seat = All (λ (z : Row). All (λ (t : Taken). t.action < slice_index (actions_of f seat) t.set) (path_of z seat)) f.rows
-
 -- an accepted game is a form for both seats
 abbrev pub GameFormLaw : Type 0
 GameFormLaw = (g : GameModel) → game_ok g ≡ true → recall_fault g ≡ None → IsForm (form_of g) 1 × IsForm (form_of g) 2
 
--- so it is in a form
+-- each action on the paths of a seat is one of its set's
+abbrev pub HasActions : Form → ℕ → Type 0
+HasActions f seat = All (λ (z : Row). All (λ (t : Taken). t.action < slice_index (actions_of f seat) t.set) (path_of z seat)) f.rows
+
+-- in a form each action is one of its set's
 abbrev pub ActionsLaw : Type 0
 ActionsLaw = (f : Form) (seat : ℕ) → IsForm f seat → HasActions f seat
 
@@ -58,7 +58,7 @@ ValueLaw = (p : Pair) (seat I : ℕ) → HasActions p.form seat → decides (set
 abbrev pub NoRegret : Pair → (seat I : ℕ) → Type 0
 NoRegret p seat I = total_below (slice_index (sets_in p seat) I) (λ a. pos (weight_in p seat I a) *ℤ (action_value p seat I a -ℤ set_value p seat I)) ≡ pos 0
 
--- so it is where the weights of a deciding set sum to the grid
+-- where the weights of a deciding set sum to the grid, its regrets sum to zero by them
 abbrev pub RegretLaw : Type 0
 RegretLaw = (p : Pair) (seat I : ℕ) → HasActions p.form seat → decides (sets_in p seat) I ≡ true
     → sum_below (slice_index (sets_in p seat) I) (weight_in p seat I) ≡ grid_in p seat → NoRegret p seat I
@@ -67,7 +67,7 @@ RegretLaw = (p : Pair) (seat I : ℕ) → HasActions p.form seat → decides (se
 abbrev pub HasFactors : Form → ℕ → Type 0
 HasFactors f seat = All (λ (z : Row). deciding (actions_of f seat) (path_of z seat) + pad_of z seat ≡ factors_in f seat) f.rows
 
--- there the value of a set is what its seat's table earns at it, as a reply to the other seat's
+-- where a seat brings as many factors to each row, the value of a set is what its table earns there as a reply to the other seat's
 abbrev pub EarningLaw : Type 0
 EarningLaw = (p : Pair) (seat I : ℕ) → (seat ≡ 1) ⊎ (seat ≡ 2) → HasFactors p.form seat
     → set_value p seat I ≡ earned (record { form = p.form; keeper = other seat; grid = grid_in p (other seat); table = table_in p (other seat) }) (reply_by (grid_in p seat) (sets_in p seat) (table_in p seat)) I
@@ -79,11 +79,11 @@ pub record IsTally (f : Form) (t : Tally) : Type 0 where
   pub sums1 : length t.sums1 ≡ first_weight f.actions1 (length f.actions1)
   pub sums2 : length t.sums2 ≡ first_weight f.actions2 (length f.actions2)
 
--- after any number of rounds it has
+-- after any number of rounds there is a regret and a sum for each weight
 abbrev pub TallyLaw : Type 0
 TallyLaw = (grid1 grid2 : ℕ) (f : Form) (rounds : ℕ) → IsTally f (tally_after grid1 grid2 f rounds)
 
--- in each round the tables are tables, and the regrets sum to zero by them
+-- the tables of each round are tables, and at each deciding set the regrets that the round adds sum to zero by them
 abbrev pub RoundLaw : Type 0
 RoundLaw = (grid1 grid2 : ℕ) (f : Form) (t : Tally) → IsTally f t
     → IsWhole grid1 f.actions1 (pair_of grid1 grid2 f t).table1 × IsWhole grid2 f.actions2 (pair_of grid1 grid2 f t).table2
@@ -133,7 +133,7 @@ GadgetFormLaw = (rule : Rule) (keeper roots factors : ℕ) (limits : ℕ → ℤ
     (IsForm f keeper → IsForm h keeper)
     × (IsForm f (other keeper) → 1 ≤ roots → All (λ z. BeginsBelow roots (path_of z (other keeper))) f.rows → IsForm h (other keeper))
 
--- so in an accepted game the gadget for a node where the opponent has a set is a form
+-- in an accepted game the gadget for a node where the opponent has a set is a form for both seats
 abbrev pub GameGadgetLaw : Type 0
 GameGadgetLaw = (g : GameModel) (rule : Rule) (keeper : ℕ) (node table : List ℕ) (bounds : List ℤ) → game_ok g ≡ true → recall_fault g ≡ None → (keeper ≡ 1) ⊎ (keeper ≡ 2)
     → 1 ≤ length (node_sets g (other keeper) node) → IsForm (gadget_form g rule keeper node table bounds) 1 × IsForm (gadget_form g rule keeper node table bounds) 2
@@ -143,12 +143,12 @@ abbrev pub AveragesLaw : Type 0
 AveragesLaw = (grid1 grid2 : ℕ) (f : Form) (rounds : ℕ)
     → IsWhole grid1 f.actions1 (averages grid1 grid2 f rounds).0 × IsWhole grid2 f.actions2 (averages grid1 grid2 f rounds).1
 
--- so a candidate is a table of the keeper's sets inside the subgame
+-- a candidate is a table of the keeper's sets inside the subgame
 abbrev pub CandidateLaw : Type 0
 CandidateLaw = (g : GameModel) (rule : Rule) (keeper : ℕ) (node table : List ℕ) (bounds : List ℤ) (rounds : ℕ) → (keeper ≡ 1) ⊎ (keeper ≡ 2)
     → IsWhole (grid_of g keeper) (span_actions (span_at g keeper node)) (candidate g rule keeper node table bounds rounds)
 
--- and what is solved are tables of the game
+-- what some rounds on a whole game find are tables of the game
 abbrev pub SolvedLaw : Type 0
 SolvedLaw = (g : GameModel) (rounds : ℕ)
     → IsWhole (grid_of g 1) (game_actions g 1) (solved_tables g rounds).0 × IsWhole (grid_of g 2) (game_actions g 2) (solved_tables g rounds).1
