@@ -16,8 +16,8 @@ use Rattle.lab_defs_value.specs.Bounds.{at}
 use Rattle.lab_defs_value.specs.Allowances.{lies_on}
 use Rattle.lab_defs_value.specs.Splices.{subgame_sets}
 use Rattle.lab_defs_value.specs.Passes.{Passes}
-use Rattle.lab_defs_report.specs.Commands.{Command, propose}
-use Rattle.lab_defs_report.specs.States.{State, Plays, Proposal, step_of, table_of, bounds_of, played_by, proposed_table, allowances, root_sets, node_list, inside_count}
+use Rattle.lab_defs_report.specs.Commands.{Command, propose, resolve}
+use Rattle.lab_defs_report.specs.States.{State, Plays, Proposal, step_of, table_of, bounds_of, played_by, proposed_table, allowances, root_sets, node_list, inside_count, candidate_of, with_weights}
 
 -- a game that a session takes
 pub record IsAccepted (g : GameModel) : Type 0 where
@@ -65,9 +65,12 @@ pub record Judges (g : GameModel) (before after : Plays) (q : Proposal) (reply :
   pub outside : SameOutside g q (table_of before q.seat) (table_of after q.seat)
   pub kept : tells_accepted reply ≡ false → after ≡ before
 
--- what a command does to the strategies: a proposal is judged, and any other changes nothing
+-- what a command does to the strategies: a proposal is judged, and so is what a re-solve finds; any other command changes nothing
 abbrev pub Does : GameModel → (before after : Plays) → Command → List Bytes → Type 0
 Does g before after (propose seat node rule weights) reply = Judges g before after (record { seat = seat; node = node; rule = rule; weights = weights }) reply
+Does g before after (resolve seat node rule rounds) reply =
+    let q : Proposal = record { seat = seat; node = node; rule = rule; weights = [] } in
+    Judges g before after (with_weights q (candidate_of g before q rounds)) reply
 Does g before after _ reply = after ≡ before
 
 -- no bound rises
