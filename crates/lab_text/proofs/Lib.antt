@@ -6,3 +6,5 @@ pub mod NameSteps
 pub mod PlaceSteps
 pub mod FaultSteps
 pub mod TakeSteps
+pub mod LoopSteps
+pub mod GameSteps

@@ -172,30 +172,31 @@ world_refused n last old closed ws w name f h c a b t =
     world_applied n last old closed ws w name h c a b ∙ old_is (stands_in name closed.names) (closed.names ++ name ∷ []) (begun n last old name) f t
 
 -- an end is added
-pub end_added : (n : ℕ) (last : LineKind) (old closed : Draft) (ws : List Bytes) (w v name : Bytes) (payoff : ℤ) (names : List Bytes) → length old.names ≡ length old.places.items + whole_worlds last → Closed last old closed
-    → two_words ws ≡ Ok (w, v) → name_at 2 w ≡ Ok name → payoff_at 3 v ≡ Ok payoff → draft.unless_twice (stands_in name closed.names) (closed.names ++ name ∷ []) ≡ Ok names
+pub end_added : (n : ℕ) (last : LineKind) (old closed : Draft) (ws : List Bytes) (w v name : Bytes) (payoff : ℤ) (names : List Bytes) (pushed : List PartPlace) → length old.names ≡ length old.places.items + whole_worlds last
+    → Closed last old closed → two_words ws ≡ Ok (w, v) → name_at 2 w ≡ Ok name → payoff_at 3 v ≡ Ok payoff → draft.unless_twice (stands_in name closed.names) (closed.names ++ name ∷ []) ≡ Ok names
+    → pushed ≡ closed.places.items ++ place.End n payoff ∷ []
     → applied n last old (rest_at end_kind ws) ≡ Ok (record {
         grid = closed.grid;
         horizon = closed.horizon;
         recall = recall_model closed.recall;
         tokens = closed.tokens;
-        places = part_places_of names (closed.places.items ++ place.End n payoff ∷ []);
-        open_world = open_world_of (name_of names (length (closed.places.items ++ place.End n payoff ∷ []))) closed.open_world;
+        places = part_places_of names pushed;
+        open_world = open_world_of (name_of names (length pushed)) closed.open_world;
         open_row = open_row_of closed.open_row;
         root = string_bytes closed.root;
         root_line = closed.root_line;
       })
-end_added n last old closed ws w v name payoff names h c a b p t =
+end_added n last old closed ws w v name payoff names pushed h c a b p t e =
     let new = new_is (stands_in name closed.names) (closed.names ++ name ∷ []) names t in
     let count = ap length c.places in
     let even : length closed.places.items ≡ length closed.names = omega (arith, count, h, closed_length last old, ap length c.names) in
     let longer : length names ≡ length closed.names + 1 = ap length new.1 ∙ length-append closed.names (name ∷ []) in
-    let more : length (closed.places.items ++ place.End n payoff ∷ []) ≡ length closed.places.items + 1 = length-append closed.places.items (place.End n payoff ∷ []) in
+    let more : length pushed ≡ length closed.places.items + 1 = ap length e ∙ length-append closed.places.items (place.End n payoff ∷ []) in
     let its_name = ap (λ ns. name_of ns (length closed.places.items)) new.1 ∙ name_last closed.names name (length closed.places.items) even in
-    let places = places_more names closed.places.items (place.End n payoff) (omega arith)
+    let places = ap (part_places_of names) e ∙ places_more names closed.places.items (place.End n payoff) (omega arith)
       ∙ ap (λ m. part_places_of names closed.places.items ++ draft.part_end m n payoff ∷ []) its_name
       ∙ ap (λ ps. ps ++ draft.part_end name n payoff ∷ []) (places_closed last old closed names (name ∷ []) h c new.1) in
-    let world = ap (λ m. open_world_of m closed.open_world) (name_past names (length (closed.places.items ++ place.End n payoff ∷ [])) (omega arith)) ∙ c.world ∙ sym (cleared_world_is last old h) in
+    let world = ap (λ m. open_world_of m closed.open_world) (name_past names (length pushed) (omega arith)) ∙ c.world ∙ sym (cleared_world_is last old h) in
     let row = c.row ∙ sym (cleared_row_is last old) in
     end_applied n last old closed ws w v name payoff h c a b p
     ∙ cond-false (stands_in name closed.names) (Err (twice_at 2)) (Ok (ended n last old name payoff)) new.0

@@ -12,6 +12,7 @@ use Rattle.lab_defs_text.specs.Drafts as draft
 use Rattle.lab_world.specs.declared.parts.PartPlace.{PartPlace}
 use Rattle.lab_world.specs.declared.parts.PartPlace.TheVariants as place
 use Rattle.lab_world.specs.declared.parts.PartRow.{PartRow}
+use Rattle.lab_world.specs.declared.parts.Parts.{Parts}
 use Rattle.lab_world.specs.Models.{recall_model}
 use Rattle.lab_world.specs.Drafts.{part_outcome_of, part_row_of, part_places_of}
 use Rattle.lab_text.specs.declared.line_kind.LineKind.{LineKind}
@@ -141,3 +142,16 @@ pub record Counts (line : ℕ) (last : LineKind) (x : Draft) : Type 0 where
   pub named : length x.names ≡ length x.places.items + open_worlds last
   pub few_names : length x.names < line
   pub few_tokens : length x.tokens < line
+
+-- all parts, where the last line was read
+abbrev pub all_parts : Draft → Parts
+all_parts x = record {
+  grid = x.grid;
+  horizon = x.horizon;
+  recall = x.recall;
+  tokens = x.tokens;
+  names = x.names;
+  places = x.places.items;
+  root = x.root;
+  root_line = x.root_line;
+}

@@ -15,6 +15,7 @@ mod place_lines;
 mod places;
 mod read;
 mod row_lines;
+mod text_lines;
 mod write;
 
 pub use fault::TextFault;

@@ -1,4 +1,7 @@
-use Rattle.std.proofs.Common.{◌++◌, ◌∷◌, []}
+use Rattle.std.proofs.Common.{◌++◌, ◌∷◌, [], rules}
+use Rattle.std.specs.Int.{w32}
+use Rattle.std.specs.Int.RustNames.{FitsSigned}
+use Rattle.std.proofs.lemmas.Int.{to_z-of_z}
 use Rattle.std.proofs.lemmas.Result.{err_from_is_err_and}
 use Rattle.lab_defs_text.specs.Words.{stands_in}
 use Rattle.lab_defs_text.specs.Drafts.{unless_twice}
@@ -21,4 +24,8 @@ returns-in_err-add_name-clause-line c =
       c.in_err-add_name.ensures)
 
 pub returns-clause-line : goal.returns-clause-line
-returns-clause-line c = ?
+returns-clause-line c =
+    let fits : FitsSigned w32 c.in_ok-payoff.payoff = search rules in
+    let pushed = simp to_z-of_z at c.in_ok-push.ensures.items in
+    end_added c.args.line c.args.last c.args.draft.now c.close.new.draft (pieces c.args.rest.now) c.in_ok-name.name.now c.in_ok-name.payoff.now c.in_ok-name-2.name.now c.in_ok-payoff.payoff
+      c.add_name.new.names c.push.new.self.items c.requires.named c.in_ok-close.ensures c.in_ok-name.ensures c.in_ok-name-2.ensures c.in_ok-payoff.ensures c.in_ok-add_name.ensures pushed
