@@ -1,5 +1,5 @@
 -- From the parts of a text to its game.
-use Rattle.std.proofs.Common.{◌≡◌, length, Option, Result, Ok, Err, sym, ap, subst, ◌∙◌, true}
+use Rattle.std.proofs.Common.{◌≡◌, Option, Result, Ok, Err, sym, ap, subst, ◌∙◌, true}
 use Rattle.lab_defs_text.specs.Agreement.{Agrees, FaultAgrees}
 use Rattle.lab_defs_text.specs.Faults.{TextFault}
 use Rattle.lab_defs_text.specs.Steps.{◌>>=◌}

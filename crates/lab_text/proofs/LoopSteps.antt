@@ -2,7 +2,7 @@
 use Rattle.std.proofs.Common.{◌≡◌, ℕ, ◌+◌, ◌*◌, ◌<◌, ◌≤◌, Bool, true, false, cond, eqb, List, [], ◌∷◌, length, Option, Some, None, Result, Ok, Err, refl, sym, ap, ◌∙◌, arith}
 use Rattle.std.specs.Prelude.{◌==◌}
 use Rattle.std.specs.Option.{option_map}
-use Rattle.std.specs.List.{slice_split, onto_first}
+use Rattle.std.specs.List.{onto_first}
 use Rattle.std.proofs.lemmas.Bool.{cond-true, cond-false, eqb-true}
 use Rattle.lab_math.proofs.ListParts.{split_nonempty}
 use Rattle.lab_defs_text.specs.Agreement.{FaultAgrees}
@@ -11,7 +11,7 @@ use Rattle.lab_defs_text.specs.Steps.{◌>>=◌}
 use Rattle.lab_defs_text.specs.Words.{Bytes, lines}
 use Rattle.lab_defs_text.specs.Lines.{Line}
 use Rattle.lab_defs_text.specs.Reading.{Kind, line_at, kind_of}
-use Rattle.lab_defs_text.specs.Drafts.{Draft, with_line, on_line, read_from, parts_of, at_done, cut, is_done}
+use Rattle.lab_defs_text.specs.Drafts.{Draft, with_line, on_line, read_from, parts_of, at_done, is_done}
 use Rattle.lab_defs_text.proofs.StepLemmas.{bind_ok, ok_is}
 use Rattle.lab_text.proofs.TakeSteps.{kinded}
 
@@ -69,7 +69,7 @@ pub keeps_on : (n : ℕ) (k j : Kind) (d e : Draft) (l rest after bytes : Bytes)
     → kinded n k d (line_at k l) ≡ Ok (j, e) → is_done j ≡ false → Keeps (n + 1) j e after bytes
 keeps_on n k j d e l rest after bytes i s c q f = record {
   same = sym (cond-false (is_done j) (at_done n e (lines after)) (read_from (n + 1) j e (lines after)) f)
-    ∙ sym (read_step n k j d e l (lines after) (split_nonempty (λ b. b == 10) after) q) ∙ sym (rest_is n k d l rest after bytes i s);
+      ∙ sym (read_step n k j d e l (lines after) (split_nonempty (λ b. b == 10) after) q) ∙ sym (rest_is n k d l rest after bytes i s);
   count = let some = some_byte n k j d e l q in let few = i.count in omega arith;
   first = omega arith;
 }

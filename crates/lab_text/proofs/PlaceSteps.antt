@@ -1,11 +1,10 @@
 -- Places with their names, and lines that add to them.
-use Rattle.std.proofs.Common.{◌≡◌, ℕ, zero, suc, ◌+◌, ◌<◌, ◌≤◌, ℤ, Bool, true, false, cond, List, [], ◌∷◌, ◌++◌, length, map, string_bytes, Result, Ok, Err, refl, ap, sym, subst, ◌∙◌, arith, length-append, append-nil}
+use Rattle.std.proofs.Common.{◌≡◌, ℕ, ◌+◌, ◌<◌, ◌≤◌, ℤ, Bool, true, false, List, [], ◌∷◌, ◌++◌, length, map, string_bytes, Ok, Err, refl, ap, sym, ◌∙◌, arith, length-append, append-nil}
 use Rattle.std.proofs.lemmas.Bool.{cond-false}
 use Rattle.std.proofs.lemmas.List.{map-append, get_or_past}
 use Rattle.std.proofs.Math.Seq.{get_or-append_seam}
 use Rattle.lab_defs_text.specs.Words.{Bytes, stands_in}
 use Rattle.lab_defs_text.specs.Faults.{LineFault, twice_at}
-use Rattle.lab_defs_text.specs.Steps.{◌>>=◌}
 use Rattle.lab_defs_text.specs.Texts.{name_of}
 use Rattle.lab_defs_text.specs.Lines.{world_line, end_line, root_line}
 use Rattle.lab_defs_text.specs.Reading.{rest_at, one_word, two_words, name_at, payoff_at, world_kind, end_kind, root_kind}
@@ -71,7 +70,7 @@ whole_is : (last : LineKind) (x : Draft) → length x.names ≡ length x.places.
 whole_is kind.To x h =
     let more = places_more x.names x.places.items (whole_world x.open_world x.open_row) (omega arith) in
     sym (more ∙ ap (λ rs. part_places_of x.names x.places.items
-      ++ draft.part_world (draft.with_rows (open_world_of (name_of x.names (length x.places.items)) x.open_world) rs) ∷ []) (map-append part_row_of x.open_world.rows.items (whole_row x.open_row ∷ [])))
+    ++ draft.part_world (draft.with_rows (open_world_of (name_of x.names (length x.places.items)) x.open_world) rs) ∷ []) (map-append part_row_of x.open_world.rows.items (whole_row x.open_row ∷ [])))
 whole_is last x h = refl
 
 -- their names
@@ -144,16 +143,16 @@ pub world_begins : (n : ℕ) (last : LineKind) (old closed : Draft) (ws : List B
     → one_word ws ≡ Ok w → name_at 2 w ≡ Ok name → draft.unless_twice (stands_in name closed.names) (closed.names ++ name ∷ []) ≡ Ok names
     → open_world_of [] world ≡ record { name = []; line = n; one = []; two = []; rows = [] }
     → applied n last old (rest_at world_kind ws) ≡ Ok (record {
-        grid = closed.grid;
-        horizon = closed.horizon;
-        recall = recall_model closed.recall;
-        tokens = closed.tokens;
-        places = part_places_of names closed.places.items;
-        open_world = open_world_of (name_of names (length closed.places.items)) world;
-        open_row = open_row_of closed.open_row;
-        root = string_bytes closed.root;
-        root_line = closed.root_line;
-      })
+      grid = closed.grid;
+      horizon = closed.horizon;
+      recall = recall_model closed.recall;
+      tokens = closed.tokens;
+      places = part_places_of names closed.places.items;
+      open_world = open_world_of (name_of names (length closed.places.items)) world;
+      open_row = open_row_of closed.open_row;
+      root = string_bytes closed.root;
+      root_line = closed.root_line;
+    })
 world_begins n last old closed ws w name names world h c a b t e =
     let new = new_is (stands_in name closed.names) (closed.names ++ name ∷ []) names t in
     let places = places_closed last old closed names (name ∷ []) h c new.1 in
@@ -176,16 +175,16 @@ pub end_added : (n : ℕ) (last : LineKind) (old closed : Draft) (ws : List Byte
     → Closed last old closed → two_words ws ≡ Ok (w, v) → name_at 2 w ≡ Ok name → payoff_at 3 v ≡ Ok payoff → draft.unless_twice (stands_in name closed.names) (closed.names ++ name ∷ []) ≡ Ok names
     → pushed ≡ closed.places.items ++ place.End n payoff ∷ []
     → applied n last old (rest_at end_kind ws) ≡ Ok (record {
-        grid = closed.grid;
-        horizon = closed.horizon;
-        recall = recall_model closed.recall;
-        tokens = closed.tokens;
-        places = part_places_of names pushed;
-        open_world = open_world_of (name_of names (length pushed)) closed.open_world;
-        open_row = open_row_of closed.open_row;
-        root = string_bytes closed.root;
-        root_line = closed.root_line;
-      })
+      grid = closed.grid;
+      horizon = closed.horizon;
+      recall = recall_model closed.recall;
+      tokens = closed.tokens;
+      places = part_places_of names pushed;
+      open_world = open_world_of (name_of names (length pushed)) closed.open_world;
+      open_row = open_row_of closed.open_row;
+      root = string_bytes closed.root;
+      root_line = closed.root_line;
+    })
 end_added n last old closed ws w v name payoff names pushed h c a b p t e =
     let new = new_is (stands_in name closed.names) (closed.names ++ name ∷ []) names t in
     let count = ap length c.places in
@@ -194,8 +193,8 @@ end_added n last old closed ws w v name payoff names pushed h c a b p t e =
     let more : length pushed ≡ length closed.places.items + 1 = ap length e ∙ length-append closed.places.items (place.End n payoff ∷ []) in
     let its_name = ap (λ ns. name_of ns (length closed.places.items)) new.1 ∙ name_last closed.names name (length closed.places.items) even in
     let places = ap (part_places_of names) e ∙ places_more names closed.places.items (place.End n payoff) (omega arith)
-      ∙ ap (λ m. part_places_of names closed.places.items ++ draft.part_end m n payoff ∷ []) its_name
-      ∙ ap (λ ps. ps ++ draft.part_end name n payoff ∷ []) (places_closed last old closed names (name ∷ []) h c new.1) in
+    ∙ ap (λ m. part_places_of names closed.places.items ++ draft.part_end m n payoff ∷ []) its_name
+    ∙ ap (λ ps. ps ++ draft.part_end name n payoff ∷ []) (places_closed last old closed names (name ∷ []) h c new.1) in
     let world = ap (λ m. open_world_of m closed.open_world) (name_past names (length pushed) (omega arith)) ∙ c.world ∙ sym (cleared_world_is last old h) in
     let row = c.row ∙ sym (cleared_row_is last old) in
     end_applied n last old closed ws w v name payoff h c a b p
@@ -212,16 +211,16 @@ end_refused n last old closed ws w v name payoff f h c a b p t =
 pub root_named : (n : ℕ) (last : LineKind) (old closed : Draft) (ws : List Bytes) (w name root : Bytes) → length old.names ≡ length old.places.items + whole_worlds last → Closed last old closed
     → one_word ws ≡ Ok w → name_at 2 w ≡ Ok name → root ≡ name
     → applied n last old (rest_at root_kind ws) ≡ Ok (record {
-        grid = closed.grid;
-        horizon = closed.horizon;
-        recall = recall_model closed.recall;
-        tokens = closed.tokens;
-        places = part_places_of closed.names closed.places.items;
-        open_world = open_world_of (name_of closed.names (length closed.places.items)) closed.open_world;
-        open_row = open_row_of closed.open_row;
-        root = root;
-        root_line = n;
-      })
+      grid = closed.grid;
+      horizon = closed.horizon;
+      recall = recall_model closed.recall;
+      tokens = closed.tokens;
+      places = part_places_of closed.names closed.places.items;
+      open_world = open_world_of (name_of closed.names (length closed.places.items)) closed.open_world;
+      open_row = open_row_of closed.open_row;
+      root = root;
+      root_line = n;
+    })
 root_named n last old closed ws w name root h c a b e =
     let read : rest_at root_kind ws ≡ Ok (root_line name) = rw (a, b) refl in
     let count = ap length c.places in

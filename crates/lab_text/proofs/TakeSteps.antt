@@ -1,5 +1,5 @@
 -- A line that is taken.
-use Rattle.std.proofs.Common.{◌≡◌, ℕ, true, List, ◌∷◌, Option, Some, Result, Ok, Err, refl, ap, ◌∙◌, subst, sym}
+use Rattle.std.proofs.Common.{◌≡◌, ℕ, true, List, ◌∷◌, Option, Some, Result, Ok, Err, refl, ap, ◌∙◌, sym}
 use Rattle.std.specs.Prelude.{◌==◌}
 use Rattle.std.proofs.lemmas.Bool.{cond-true}
 use Rattle.lab_defs_text.specs.Agreement.{FaultAgrees}

@@ -7,7 +7,7 @@ use Rattle.lab_defs_text.specs.Words.{Bytes}
 use Rattle.lab_defs_text.specs.Faults.{LineFault}
 use Rattle.lab_defs_text.specs.Lines.{Line}
 use Rattle.lab_defs_text.specs.Texts.{name_of}
-use Rattle.lab_defs_text.specs.Reading.{Kind, start_kind, head_kind, grid_kind, horizon_kind, memory_kind, token_kind, world_kind, one_kind, two_kind, row_kind, to_kind, end_kind, root_kind, done_kind, kind_of, line_at}
+use Rattle.lab_defs_text.specs.Reading.{Kind, start_kind, head_kind, grid_kind, horizon_kind, memory_kind, token_kind, world_kind, one_kind, two_kind, row_kind, to_kind, end_kind, root_kind, done_kind, kind_of, line_at, some_words, names_at}
 use Rattle.lab_defs_text.specs.Drafts as draft
 use Rattle.lab_world.specs.declared.parts.PartPlace.{PartPlace}
 use Rattle.lab_world.specs.declared.parts.PartPlace.TheVariants as place
@@ -65,6 +65,10 @@ draft_is x = record {
   root = string_bytes x.root;
   root_line = x.root_line;
 }
+
+-- the names of actions: one or more, none of them twice
+abbrev pub actions_at : List Bytes → Result (List Bytes) LineFault
+actions_at ws = some_words ws >>= λ ns. names_at 2 ns >>= λ xs. draft.unless_repeated xs xs
 
 -- the parts with the line that was read
 abbrev pub applied : ℕ → LineKind → Draft → Result Line LineFault → Result draft.Draft LineFault

@@ -14,7 +14,12 @@ use crate::line_words::{name_in, nothing, number_in, only};
 use lab_world::Recall;
 
 /// The line `fosg 1`.
-pub fn head_line(draft: &mut Draft, last: LineKind, line: u32, rest: &[&[u8]]) -> Result<(), LineFault>
+pub fn head_line(
+    draft: &mut Draft,
+    last: LineKind,
+    line: u32,
+    rest: &[&[u8]],
+) -> Result<(), LineFault>
     ensures line { Agrees (λ _. draft_is draft.new) line_fault result (applied line last draft.old (rest_at head_kind (pieces rest.now))) }
     ensures names { KeepsNames draft.old draft.new }
 {
@@ -26,7 +31,12 @@ pub fn head_line(draft: &mut Draft, last: LineKind, line: u32, rest: &[&[u8]]) -
 }
 
 /// The line of the grid.
-pub fn grid_line(draft: &mut Draft, last: LineKind, line: u32, rest: &[&[u8]]) -> Result<(), LineFault>
+pub fn grid_line(
+    draft: &mut Draft,
+    last: LineKind,
+    line: u32,
+    rest: &[&[u8]],
+) -> Result<(), LineFault>
     ensures line { Agrees (λ _. draft_is draft.new) line_fault result (applied line last draft.old (rest_at grid_kind (pieces rest.now))) }
     ensures names { KeepsNames draft.old draft.new }
 {
@@ -36,7 +46,12 @@ pub fn grid_line(draft: &mut Draft, last: LineKind, line: u32, rest: &[&[u8]]) -
 }
 
 /// The line of the horizon.
-pub fn horizon_line(draft: &mut Draft, last: LineKind, line: u32, rest: &[&[u8]]) -> Result<(), LineFault>
+pub fn horizon_line(
+    draft: &mut Draft,
+    last: LineKind,
+    line: u32,
+    rest: &[&[u8]],
+) -> Result<(), LineFault>
     ensures line { Agrees (λ _. draft_is draft.new) line_fault result (applied line last draft.old (rest_at horizon_kind (pieces rest.now))) }
     ensures names { KeepsNames draft.old draft.new }
 {
@@ -46,7 +61,12 @@ pub fn horizon_line(draft: &mut Draft, last: LineKind, line: u32, rest: &[&[u8]]
 }
 
 /// The line of the kind of memory.
-pub fn memory_line(draft: &mut Draft, last: LineKind, line: u32, rest: &[&[u8]]) -> Result<(), LineFault>
+pub fn memory_line(
+    draft: &mut Draft,
+    last: LineKind,
+    line: u32,
+    rest: &[&[u8]],
+) -> Result<(), LineFault>
     ensures line { Agrees (λ _. draft_is draft.new) line_fault result (applied line last draft.old (rest_at memory_kind (pieces rest.now))) }
     ensures names { KeepsNames draft.old draft.new }
 {
@@ -69,7 +89,12 @@ fn recall_in(word: &[u8], place: u32) -> Result<Recall, LineFault>
 }
 
 /// The line of a token.
-pub fn token_line(draft: &mut Draft, last: LineKind, line: u32, rest: &[&[u8]]) -> Result<(), LineFault>
+pub fn token_line(
+    draft: &mut Draft,
+    last: LineKind,
+    line: u32,
+    rest: &[&[u8]],
+) -> Result<(), LineFault>
     requires { length draft.old.tokens + 1 < 2 ^ 32 }
     ensures line { Agrees (λ _. draft_is draft.new) line_fault result (applied line last draft.old (rest_at token_kind (pieces rest.now))) }
     ensures names { draft.new.names ≡ draft.old.names }
@@ -82,7 +107,12 @@ pub fn token_line(draft: &mut Draft, last: LineKind, line: u32, rest: &[&[u8]]) 
 }
 
 /// The line `done`.
-pub fn done_line(draft: &mut Draft, last: LineKind, line: u32, rest: &[&[u8]]) -> Result<(), LineFault>
+pub fn done_line(
+    draft: &mut Draft,
+    last: LineKind,
+    line: u32,
+    rest: &[&[u8]],
+) -> Result<(), LineFault>
     ensures line { Agrees (λ _. draft_is draft.new) line_fault result (applied line last draft.old (rest_at done_kind (pieces rest.now))) }
     ensures names { KeepsNames draft.old draft.new }
 {

@@ -16,7 +16,13 @@ use crate::row_lines::{one_line, outcome_line, row_line, two_line};
 use std::alloc::Global;
 
 /// Reads the line with a number, behind a line of the last kind, and answers its kind.
-pub fn take_line(alloc: Global, draft: &mut Draft, last: LineKind, line: u32, bytes: &[u8]) -> Result<LineKind, LineFault>
+pub fn take_line(
+    alloc: Global,
+    draft: &mut Draft,
+    last: LineKind,
+    line: u32,
+    bytes: &[u8],
+) -> Result<LineKind, LineFault>
     requires short { length bytes.now + 1 < 2 ^ 32 }
     requires counts { Counts line last draft.old }
     ensures line { Agrees (λ k. (kind_is k, draft_is draft.new)) line_fault result (stepped line last draft.old bytes.now) }
@@ -34,7 +40,14 @@ pub fn take_line(alloc: Global, draft: &mut Draft, last: LineKind, line: u32, by
 }
 
 // Reads the words behind the first one of a line of a kind.
-fn rest_line(alloc: Global, draft: &mut Draft, last: LineKind, line: u32, kind: LineKind, rest: &[&[u8]]) -> Result<(), LineFault>
+fn rest_line(
+    alloc: Global,
+    draft: &mut Draft,
+    last: LineKind,
+    line: u32,
+    kind: LineKind,
+    rest: &[&[u8]],
+) -> Result<(), LineFault>
     requires short { length rest.now + 1 < 2 ^ 32 }
     requires counts { Counts line last draft.old }
     requires fits { fits_behind last kind ≡ true }

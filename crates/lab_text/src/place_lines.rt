@@ -14,7 +14,13 @@ use lab_world::PartPlace;
 use std::alloc::Global;
 
 /// The line that begins a world.
-pub fn world_line(alloc: Global, draft: &mut Draft, last: LineKind, line: u32, rest: &[&[u8]]) -> Result<(), LineFault>
+pub fn world_line(
+    alloc: Global,
+    draft: &mut Draft,
+    last: LineKind,
+    line: u32,
+    rest: &[&[u8]],
+) -> Result<(), LineFault>
     requires named { length draft.old.names ≡ length draft.old.places.items + whole_worlds last }
     requires room { length draft.old.names + 1 < 2 ^ 32 }
     ensures line { Agrees (λ _. draft_is draft.new) line_fault result (applied line last draft.old (rest_at world_kind (pieces rest.now))) }
@@ -31,7 +37,13 @@ pub fn world_line(alloc: Global, draft: &mut Draft, last: LineKind, line: u32, r
 }
 
 /// The line of an end.
-pub fn end_line(alloc: Global, draft: &mut Draft, last: LineKind, line: u32, rest: &[&[u8]]) -> Result<(), LineFault>
+pub fn end_line(
+    alloc: Global,
+    draft: &mut Draft,
+    last: LineKind,
+    line: u32,
+    rest: &[&[u8]],
+) -> Result<(), LineFault>
     requires named { length draft.old.names ≡ length draft.old.places.items + whole_worlds last }
     requires room { length draft.old.names + 1 < 2 ^ 32 }
     ensures line { Agrees (λ _. draft_is draft.new) line_fault result (applied line last draft.old (rest_at end_kind (pieces rest.now))) }
@@ -49,7 +61,13 @@ pub fn end_line(alloc: Global, draft: &mut Draft, last: LineKind, line: u32, res
 }
 
 /// The line of the root.
-pub fn root_line(alloc: Global, draft: &mut Draft, last: LineKind, line: u32, rest: &[&[u8]]) -> Result<(), LineFault>
+pub fn root_line(
+    alloc: Global,
+    draft: &mut Draft,
+    last: LineKind,
+    line: u32,
+    rest: &[&[u8]],
+) -> Result<(), LineFault>
     requires { length draft.old.names ≡ length draft.old.places.items + whole_worlds last }
     ensures line { Agrees (λ _. draft_is draft.new) line_fault result (applied line last draft.old (rest_at root_kind (pieces rest.now))) }
     ensures named { OnOk result (length draft.new.names ≡ length draft.new.places.items) }

@@ -3,7 +3,7 @@ ghost use Rattle.std.specs.Prelude.{◌≡◌, ◌+◌, ◌<◌, ◌^◌, length
 ghost use Rattle.lab_defs_text.specs.Agreement.{Agrees};
 ghost use Rattle.lab_defs_text.specs.Reading.{rest_at, one_kind, two_kind, row_kind, to_kind};
 ghost use Rattle.lab_text.specs.Faults.{line_fault};
-ghost use Rattle.lab_text.specs.Drafts.{draft_is, applied, pieces, KeepsNames};
+ghost use Rattle.lab_text.specs.Drafts.{draft_is, applied, pieces, name_list, actions_at, KeepsNames};
 
 use crate::draft::{Draft, OpenRow};
 use crate::draft_steps::{twice_place, whole_row};
@@ -15,28 +15,41 @@ use std::alloc::Global;
 use std::mem;
 
 /// The line of seat 1's actions.
-pub fn one_line(alloc: Global, draft: &mut Draft, last: LineKind, line: u32, rest: &[&[u8]]) -> Result<(), LineFault>
+pub fn one_line(
+    alloc: Global,
+    draft: &mut Draft,
+    last: LineKind,
+    line: u32,
+    rest: &[&[u8]],
+) -> Result<(), LineFault>
     requires { length rest.now + 1 < 2 ^ 32 }
     ensures line { Agrees (λ _. draft_is draft.new) line_fault result (applied line last draft.old (rest_at one_kind (pieces rest.now))) }
     ensures names { KeepsNames draft.old draft.new }
 {
-    if rest.is_empty() {
-        return Err(LineFault::BadWord { place: 2 });
-    }
-    let names = names_in(alloc, rest)?;
-    let place = twice_place(alloc, &names)?;
-    if place != 0 {
-        return Err(LineFault::Twice { place });
-    }
-    draft.open_world.one = names;
+    draft.open_world.one = actions_in(alloc, rest)?;
     Ok(())
 }
 
 /// The line of seat 2's actions.
-pub fn two_line(alloc: Global, draft: &mut Draft, last: LineKind, line: u32, rest: &[&[u8]]) -> Result<(), LineFault>
+pub fn two_line(
+    alloc: Global,
+    draft: &mut Draft,
+    last: LineKind,
+    line: u32,
+    rest: &[&[u8]],
+) -> Result<(), LineFault>
     requires { length rest.now + 1 < 2 ^ 32 }
     ensures line { Agrees (λ _. draft_is draft.new) line_fault result (applied line last draft.old (rest_at two_kind (pieces rest.now))) }
     ensures names { KeepsNames draft.old draft.new }
+{
+    draft.open_world.two = actions_in(alloc, rest)?;
+    Ok(())
+}
+
+// The names of actions behind the first word, each of which is new.
+fn actions_in(alloc: Global, rest: &[&[u8]]) -> Result<Vec<String>, LineFault>
+    requires { length rest.now + 1 < 2 ^ 32 }
+    ensures { Agrees (λ v. name_list v.items) line_fault result (actions_at (pieces rest.now)) }
 {
     if rest.is_empty() {
         return Err(LineFault::BadWord { place: 2 });
@@ -46,12 +59,17 @@ pub fn two_line(alloc: Global, draft: &mut Draft, last: LineKind, line: u32, res
     if place != 0 {
         return Err(LineFault::Twice { place });
     }
-    draft.open_world.two = names;
-    Ok(())
+    Ok(names)
 }
 
 /// The line that begins a row.
-pub fn row_line(alloc: Global, draft: &mut Draft, last: LineKind, line: u32, rest: &[&[u8]]) -> Result<(), LineFault>
+pub fn row_line(
+    alloc: Global,
+    draft: &mut Draft,
+    last: LineKind,
+    line: u32,
+    rest: &[&[u8]],
+) -> Result<(), LineFault>
     ensures line { Agrees (λ _. draft_is draft.new) line_fault result (applied line last draft.old (rest_at row_kind (pieces rest.now))) }
     ensures names { KeepsNames draft.old draft.new }
 {
@@ -72,7 +90,13 @@ pub fn row_line(alloc: Global, draft: &mut Draft, last: LineKind, line: u32, res
 }
 
 /// The line of an outcome.
-pub fn outcome_line(alloc: Global, draft: &mut Draft, last: LineKind, line: u32, rest: &[&[u8]]) -> Result<(), LineFault>
+pub fn outcome_line(
+    alloc: Global,
+    draft: &mut Draft,
+    last: LineKind,
+    line: u32,
+    rest: &[&[u8]],
+) -> Result<(), LineFault>
     ensures line { Agrees (λ _. draft_is draft.new) line_fault result (applied line last draft.old (rest_at to_kind (pieces rest.now))) }
     ensures names { KeepsNames draft.old draft.new }
 {

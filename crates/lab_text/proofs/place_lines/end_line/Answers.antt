@@ -18,14 +18,14 @@ returns-in_err-add_name-clause-line c =
     let name = c.in_ok-name-2.name.now in
     let names = c.close.new.draft.names in
     rw (p.1, p.2) (fault_same (line_fault c.in_err-add_name.field-0.0) (unless_twice (stands_in name names) (names ++ name ∷ []))
-      (applied c.args.line c.args.last c.args.draft.now (rest_at end_kind (pieces c.args.rest.now)))
-      (λ f t. end_refused c.args.line c.args.last c.args.draft.now c.close.new.draft (pieces c.args.rest.now) c.in_ok-name.name.now c.in_ok-name.payoff.now name c.in_ok-payoff.payoff f
-        c.requires.named c.in_ok-close.ensures c.in_ok-name.ensures c.in_ok-name-2.ensures c.in_ok-payoff.ensures t)
-      c.in_err-add_name.ensures)
+    (applied c.args.line c.args.last c.args.draft.now (rest_at end_kind (pieces c.args.rest.now)))
+    (λ f t. end_refused c.args.line c.args.last c.args.draft.now c.close.new.draft (pieces c.args.rest.now) c.in_ok-name.name.now c.in_ok-name.payoff.now name c.in_ok-payoff.payoff f
+    c.requires.named c.in_ok-close.ensures c.in_ok-name.ensures c.in_ok-name-2.ensures c.in_ok-payoff.ensures t)
+    c.in_err-add_name.ensures)
 
 pub returns-clause-line : goal.returns-clause-line
 returns-clause-line c =
     let fits : FitsSigned w32 c.in_ok-payoff.payoff = search rules in
     let pushed = simp to_z-of_z at c.in_ok-push.ensures.items in
     end_added c.args.line c.args.last c.args.draft.now c.close.new.draft (pieces c.args.rest.now) c.in_ok-name.name.now c.in_ok-name.payoff.now c.in_ok-name-2.name.now c.in_ok-payoff.payoff
-      c.add_name.new.names c.push.new.self.items c.requires.named c.in_ok-close.ensures c.in_ok-name.ensures c.in_ok-name-2.ensures c.in_ok-payoff.ensures c.in_ok-add_name.ensures pushed
+    c.add_name.new.names c.push.new.self.items c.requires.named c.in_ok-close.ensures c.in_ok-name.ensures c.in_ok-name-2.ensures c.in_ok-payoff.ensures c.in_ok-add_name.ensures pushed

@@ -15,12 +15,12 @@ returns-in_err-add_name-clause-line c =
     let name = c.in_ok-name.name.now in
     let names = c.close.new.draft.names in
     rw (p.1, p.2) (fault_same (line_fault c.in_err-add_name.field-0.0) (unless_twice (stands_in name names) (names ++ name ∷ []))
-      (applied c.args.line c.args.last c.args.draft.now (rest_at world_kind (pieces c.args.rest.now)))
-      (λ f t. world_refused c.args.line c.args.last c.args.draft.now c.close.new.draft (pieces c.args.rest.now) c.in_ok-word.word.now name f
-        c.requires.named c.in_ok-close.ensures c.in_ok-word.ensures c.in_ok-name.ensures t)
-      c.in_err-add_name.ensures)
+    (applied c.args.line c.args.last c.args.draft.now (rest_at world_kind (pieces c.args.rest.now)))
+    (λ f t. world_refused c.args.line c.args.last c.args.draft.now c.close.new.draft (pieces c.args.rest.now) c.in_ok-word.word.now name f
+    c.requires.named c.in_ok-close.ensures c.in_ok-word.ensures c.in_ok-name.ensures t)
+    c.in_err-add_name.ensures)
 
 pub returns-clause-line : goal.returns-clause-line
 returns-clause-line c =
     world_begins c.args.line c.args.last c.args.draft.now c.close.new.draft (pieces c.args.rest.now) c.in_ok-word.word.now c.in_ok-name.name.now c.add_name.new.names
-      c.empty_world.result c.requires.named c.in_ok-close.ensures c.in_ok-word.ensures c.in_ok-name.ensures c.in_ok-add_name.ensures c.empty_world.ensures
+    c.empty_world.result c.requires.named c.in_ok-close.ensures c.in_ok-word.ensures c.in_ok-name.ensures c.in_ok-add_name.ensures c.empty_world.ensures

@@ -23,7 +23,7 @@ refused c =
     let p = err_from_is_err_and c.from_residual-in_err-assemble.result c.from_residual-in_err-assemble.ensures.1 in
     let fault = assemble_fault c.in_err-assemble.field-0.0 in
     fault_told c.args.bytes.now c.from_residual-in_err-assemble.result p.0 fault p.1 p.2
-      (whole_fault c.args.bytes.now c.in_ok-draft.draft c.all_parts.result fault c.in_ok-draft.ensures.parts c.all_parts.ensures c.in_err-assemble.ensures)
+    (whole_fault c.args.bytes.now c.in_ok-draft.draft c.all_parts.result fault c.in_ok-draft.ensures.parts c.all_parts.ensures c.in_err-assemble.ensures)
 
 pub returns-in_err-assemble-clause-exact : goal.returns-in_err-assemble-clause-exact
 returns-in_err-assemble-clause-exact c = refused c

@@ -1,5 +1,4 @@
-use Rattle.std.proofs.Common.{◌∙◌, sym, ap, ◌==◌, ◌∷◌, []}
-use Rattle.std.specs.Option.{option_map_or}
+use Rattle.std.proofs.Common.{sym, ◌==◌}
 use Rattle.std.proofs.lemmas.List.{take_rest}
 use Rattle.lab_math.proofs.ListParts.{split_none, split_some}
 use Rattle.lab_text.proofs.text_lines.first_line.Goals as goal
