@@ -1,5 +1,5 @@
 -- Names that are added, and names that stand twice.
-use Rattle.std.proofs.Common.{◌≡◌, ℕ, zero, suc, ◌+◌, ◌<◌, Bool, true, false, cond, List, [], ◌∷◌, ◌++◌, length, get_or, drop, string_bytes, position, Some, None, Ok, Err, Result, refl, ap, sym, ◌∙◌, arith}
+use Rattle.std.proofs.Common.{◌≡◌, ℕ, zero, suc, ◌+◌, ◌<◌, Bool, true, List, [], ◌∷◌, ◌++◌, length, get_or, drop, string_bytes, position, Some, None, Ok, Err, ap, sym, ◌∙◌, arith}
 use Rattle.std.specs.Prelude.{String}
 use Rattle.std.specs.Global.{Global}
 use Rattle.std.specs.List.{list_any}
@@ -8,7 +8,7 @@ use Rattle.std.proofs.lemmas.Bool.{cond-true, cond-false, or_left, or_right}
 use Rattle.std.proofs.lemmas.List.{drop_more}
 use Rattle.std.proofs.lemmas.List.Quantifiers.{position-Some}
 use Rattle.lab_defs_text.specs.Words.{Bytes, stands_in}
-use Rattle.lab_defs_text.specs.Faults.{LineFault, twice_at}
+use Rattle.lab_defs_text.specs.Faults.{twice_at}
 use Rattle.lab_defs_text.specs.Drafts.{first_twice, unless_twice}
 use Rattle.lab_lex.proofs.Positions.{list_any-from_None}
 use Rattle.lab_text.specs.Drafts.{name_list}

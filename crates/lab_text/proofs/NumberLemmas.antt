@@ -1,5 +1,5 @@
 -- Whole numbers at a place.
-use Rattle.std.proofs.Common.{◌≡◌, ℕ, ℤ, Bool, true, false, cond, Result, Ok, Err, refl, ap}
+use Rattle.std.proofs.Common.{◌≡◌, ℕ, ℤ, Bool, true, false, cond, Ok, Err, refl, ap}
 use Rattle.std.specs.Prelude.{◌&&◌, int_le}
 use Rattle.lab_defs_text.specs.Faults.{lexical, out_of_range_at, bad_number_at}
 use Rattle.lab_defs_text.specs.Words.{Bytes}

@@ -61,7 +61,9 @@ pub fn two<'a>(rest: &[&'a [u8]]) -> Result<(&'a [u8], &'a [u8]), LineFault>
 }
 
 /// The five words behind the first one.
-pub fn five<'a>(rest: &[&'a [u8]]) -> Result<(&'a [u8], &'a [u8], &'a [u8], &'a [u8], &'a [u8]), LineFault>
+pub fn five<'a>(
+    rest: &[&'a [u8]],
+) -> Result<(&'a [u8], &'a [u8], &'a [u8], &'a [u8], &'a [u8]), LineFault>
     ensures { Agrees (λ x. (x.0.now, x.1.now, x.2.now, x.3.now, x.4.now)) line_fault result (five_words (pieces rest.now)) }
 {
     match rest {
