@@ -1,6 +1,8 @@
 //! Game texts: a game written as its canonical text, and read from any of its texts.
 #![tactic(auto)]
 
+#[cfg(test)]
+mod cases;
 mod draft;
 mod draft_steps;
 mod fault;
