@@ -8,12 +8,13 @@ use Rattle.lab_math.proofs.ListTests.{all_push}
 use Rattle.lab_defs_text.specs.Words.{Bytes}
 use Rattle.lab_defs_text.specs.Games as model
 use Rattle.lab_defs_text.proofs.ListLemmas.{all_weaker}
+use Rattle.lab_world.specs.declared.place.World.{World}
 use Rattle.lab_world.specs.declared.place.Place.{Place}
 use Rattle.lab_world.specs.declared.place.Place.TheVariants as place
-use Rattle.lab_world.specs.Models.{row_model, action_list, place_model}
+use Rattle.lab_world.specs.Models.{row_model, action_list, world_model, place_model}
 use Rattle.lab_world.specs.Wholes.{with_new, action_names, place_fits}
 use Rattle.lab_world.specs.Stages.{total_fits}
-use Rattle.lab_world.proofs.ActionNameLemmas.{with_new_rest, ids_below, ids_below_more, action_list_append}
+use Rattle.lab_world.proofs.ActionNameLemmas.{with_new_rest, ids_below, ids_below_more, ids_below_new, action_list_append, action_list_new}
 
 -- names of actions come at the end
 pub action_names_rest : (names : List Bytes) (ps : List model.Place) → (rest : List Bytes) × (action_names names ps ≡ names ++ rest)
@@ -51,6 +52,30 @@ fits_more xs rest (place.World w) e =
     and_from (ids_below n w.one) (ids_below n w.two && list_all total_fits w.rows) (ids_below_more (length xs) n w.one le a.0)
     (and_from (ids_below n w.two) (list_all total_fits w.rows) (ids_below_more (length xs) n w.two le b.0) b.1)
 fits_more xs rest (place.End z) e = refl
+
+-- the actions of both seats, where those of the second may be new
+pub record WorldNamed (actions : List Bytes) (w : World) (m : model.World) : Type 0 where
+  pub same : world_model actions w ≡ m
+  pub fits : place_fits (length actions) (place.World w) ≡ true
+
+-- equal parts make equal worlds
+world_same : (a b c d : List Bytes) (rows others : List (List model.Outcome)) → a ≡ c → b ≡ d → rows ≡ others → ◌≡◌ {A = model.World} (record { one = a; two = b; rows = rows }) (record { one = c; two = d; rows = others })
+world_same a b c d rows others p q r = cc
+
+pub world_named : (middle actions : List Bytes) (w : World) (m : model.World) → actions ≡ with_new middle m.two → action_list middle w.one ≡ m.one → ids_below (length middle) w.one ≡ true → action_list actions w.two ≡ m.two → ids_below (length actions) w.two ≡ true
+    → map row_model w.rows ≡ m.rows → list_all total_fits w.rows ≡ true → WorldNamed actions w m
+world_named middle actions w m table one one_below two two_below rows totals =
+    let kept : action_list actions w.one ≡ m.one = ap (λ (xs : List Bytes). action_list xs w.one) table ∙ action_list_new middle m.two w.one one_below ∙ one in
+    let below : ids_below (length actions) w.one ≡ true = subst (λ (xs : List Bytes). ids_below (length xs) w.one ≡ true) (sym table) (ids_below_new middle m.two w.one one_below) in
+    record {
+      same = world_same (action_list actions w.one) (action_list actions w.two) m.one m.two (map row_model w.rows) m.rows kept two rows;
+      fits = and_from (ids_below (length actions) w.one) (ids_below (length actions) w.two && list_all total_fits w.rows) below (and_from (ids_below (length actions) w.two) (list_all total_fits w.rows) two_below totals);
+    }
+
+-- the names of the actions of a place, then those of others
+pub action_names_first : (names : List Bytes) (p : model.Place) (ps : List model.Place) → action_names (action_names names (p ∷ [])) ps ≡ action_names names (p ∷ ps)
+action_names_first names (model.a_world w) ps = refl
+action_names_first names (model.an_end z) ps = refl
 
 -- what holds with one place more
 pub record PlacePushed (actions : List Bytes) (after : List Place) (made rest : List model.Place) : Type 0 where

@@ -1,10 +1,11 @@
 -- Places on the way from parts to a game, as the definitions have them.
-use Rattle.std.specs.Prelude.{ℕ, List, [], ◌∷◌, Bool, true, ◌==◌, ◌&&◌, ◌++◌, map, string_bytes, Result, Ok}
+use Rattle.std.specs.Prelude.{ℕ, List, [], ◌∷◌, Bool, true, ◌==◌, ◌&&◌, ◌++◌, map, string_bytes, Result, Ok, Err, if◌then◌else◌}
 use Rattle.std.specs.List.{list_all}
 use Rattle.lab_defs_text.specs.Words.{Bytes, apart_after}
 use Rattle.lab_defs_text.specs.Games as model
-use Rattle.lab_defs_text.specs.Faults.{TextFault}
-use Rattle.lab_defs_text.specs.Steps.{◌>>=◌}
+use Rattle.lab_defs_text.specs.Faults.{TextFault, no_root}
+use Rattle.lab_defs_text.specs.Drafts as draft
+use Rattle.lab_defs_text.specs.Steps.{◌>>=◌, each}
 use Rattle.lab_defs_text.specs.Assembly as assembly
 use Rattle.lab_defs_game.specs.Chance.{row_total}
 use Rattle.lab_world.specs.declared.place.Outcome.{Outcome}
@@ -17,6 +18,7 @@ use Rattle.lab_world.specs.declared.stages.PlacedPlace.{PlacedPlace}
 use Rattle.lab_world.specs.declared.stages.PlacedPlace.TheVariants as placed
 use Rattle.lab_world.specs.declared.stages.OrderedPlace.{OrderedPlace}
 use Rattle.lab_world.specs.declared.stages.OrderedPlace.TheVariants as ordered
+use Rattle.lab_world.specs.declared.stages.RootedPlaces.{RootedPlaces}
 use Rattle.lab_world.specs.Models.{outcome_model, row_model}
 
 abbrev pub outcomes_model : List Outcome → List model.Outcome
@@ -63,3 +65,17 @@ total_fits r = r.total == row_total (row_model r)
 abbrev pub totals_fit : OrderedPlace → Bool
 totals_fit (ordered.World one two rows) = list_all total_fits rows
 totals_fit (ordered.End z) = true
+
+-- places, and the number of the root
+pub record Rooted : Type 0 where
+  pub places : List model.Place
+  pub root : ℕ
+
+abbrev pub rooted_of : RootedPlaces → Rooted
+rooted_of r = record { places = map ordered_place_of r.places.items; root = r.root }
+
+-- the places and the root that parts make, `line` being that of the root
+abbrev pub rooted : (names tokens : List Bytes) (line : ℕ) (root : Bytes) → List draft.PartPlace → Result Rooted TextFault
+rooted names tokens line root ps =
+    each (assembly.known_place names tokens) ps >>= λ ks. assembly.known names line 2 root >>= λ r. each assembly.placed ks >>= λ qs. each assembly.ordered qs >>= λ places.
+    if assembly.is_world_at r places then Ok (record { places = places; root = r }) else Err (no_root line)

@@ -9,6 +9,7 @@ mod ordered;
 mod parts;
 mod place;
 mod placed;
+mod rooted;
 mod stages;
 
 pub use game::Game;

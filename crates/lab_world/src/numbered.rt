@@ -2,11 +2,12 @@
 ghost use Rattle.std.specs.Prelude.{◌≡◌, ◌∷◌, ◌<◌, [], length, map, nat_lt, string_bytes, true, IfOk, OnOk};
 ghost use Rattle.std.specs.List.{list_all};
 ghost use Rattle.lab_defs_text.specs.Texts.{name_of};
-ghost use Rattle.lab_world.specs.Models.{action_list, place_model};
+ghost use Rattle.lab_world.specs.Models.{action_list, row_model, world_model, place_model};
 ghost use Rattle.lab_world.specs.Wholes.{with_new, action_names, place_fits};
-ghost use Rattle.lab_world.specs.Stages.{ordered_place_of, totals_fit};
+ghost use Rattle.lab_world.specs.Stages.{ordered_place_of, total_fits, totals_fit};
+ghost use Rattle.lab_world.specs.declared.place.Place.TheVariants as place;
 
-use super::place::{ActionId, Place, World};
+use super::place::{ActionId, Place, Row, World};
 use super::stages::OrderedPlace;
 use lab_lex::NameTable;
 use lab_seq::Seq;
@@ -51,16 +52,32 @@ fn numbered_place(
 {
     match place {
         OrderedPlace::World { one, two, rows } => {
-            let one = action_ids(alloc, actions, one.as_slice())?;
-            let two = action_ids(alloc, actions, two.as_slice())?;
-            Ok(Place::World(World {
-                one: Seq::from_vec(one),
-                two: Seq::from_vec(two),
-                rows,
-            }))
+            let world = numbered_world(alloc, actions, one.as_slice(), two.as_slice(), rows)?;
+            Ok(Place::World(world))
         }
         OrderedPlace::End(payoff) => Ok(Place::End(payoff)),
     }
+}
+
+fn numbered_world(
+    alloc: Global,
+    actions: &mut NameTable,
+    one: &[String],
+    two: &[String],
+    rows: Seq<Row>,
+) -> Result<World, AllocError>
+    requires { list_all total_fits rows ≡ true }
+    ensures world { IfOk result (λ w. world_model actions.new w ≡ record { one = map string_bytes one.now; two = map string_bytes two.now; rows = map row_model rows }) }
+    ensures actions { OnOk result (actions.new ≡ with_new (with_new actions.old (map string_bytes one.now)) (map string_bytes two.now)) }
+    ensures fits { IfOk result (λ w. place_fits (length actions.new) (place.World w) ≡ true) }
+{
+    let one = action_ids(alloc, actions, one)?;
+    let two = action_ids(alloc, actions, two)?;
+    Ok(World {
+        one: Seq::from_vec(one),
+        two: Seq::from_vec(two),
+        rows,
+    })
 }
 
 // The numbers of the names of actions, which are added to the table where they are new.

@@ -53,3 +53,10 @@ pub enum OrderedPlace {
     },
     End(i32),
 }
+
+/// Places with their rows in order, and the number of the root, a world.
+#[derive(Drop)]
+pub struct RootedPlaces {
+    pub places: Vec<OrderedPlace>,
+    pub root: u32,
+}
