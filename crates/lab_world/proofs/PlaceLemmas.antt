@@ -1,5 +1,5 @@
 -- Places by numbers, and names of actions that are added behind others.
-use Rattle.std.proofs.Common.{◌≡◌, ◌+◌, ◌≤◌, Bool, true, List, [], ◌∷◌, ◌++◌, length, map, refl, sym, ap, subst, ◌∙◌, arith, append_assoc, append-nil, length-append}
+use Rattle.std.proofs.Common.{◌≡◌, ◌≤◌, true, List, [], ◌∷◌, ◌++◌, length, map, refl, sym, ap, subst, ◌∙◌, arith, append_assoc, append-nil, length-append}
 use Rattle.std.specs.Prelude.{◌&&◌}
 use Rattle.std.specs.List.{list_all}
 use Rattle.std.proofs.lemmas.Bool.{and_parts, and_from}
@@ -22,9 +22,10 @@ action_names_rest names [] = ([], sym (append-nil names))
 action_names_rest names (model.a_world w ∷ ps) =
     let a = with_new_rest names w.one in
     let b = with_new_rest (with_new names w.one) w.two in
-    let c = action_names_rest (with_new (with_new names w.one) w.two) ps in
-    (a.0 ++ (b.0 ++ c.0),
-      c.1 ∙ ap (λ (xs : List Bytes). xs ++ c.0) (b.1 ∙ ap (λ (xs : List Bytes). xs ++ b.0) a.1) ∙ append_assoc (names ++ a.0) b.0 c.0 ∙ append_assoc names a.0 (b.0 ++ c.0))
+    let c = action_names_rest (with_new (with_new names w.one) w.two) ps in (
+      a.0 ++ (b.0 ++ c.0),
+      c.1 ∙ ap (λ (xs : List Bytes). xs ++ c.0) (b.1 ∙ ap (λ (xs : List Bytes). xs ++ b.0) a.1) ∙ append_assoc (names ++ a.0) b.0 c.0 ∙ append_assoc names a.0 (b.0 ++ c.0),
+    )
 action_names_rest names (model.an_end z ∷ ps) = action_names_rest names ps
 
 -- names at the end change no place whose ids are in range

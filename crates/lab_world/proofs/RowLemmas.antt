@@ -1,8 +1,8 @@
 -- Rows by the numbers of their joint actions.
-use Rattle.std.proofs.Common.{◌≡◌, ℕ, ◌+◌, Bool, true, false, nat_eq, List, [], ◌∷◌, ◌++◌, length, Result, Ok, Err, refl, sym, ap, ◌∙◌, append_assoc, append-nil, arith, inl, inr, cond}
-use Rattle.std.specs.Prelude.{◌==◌, ◌||◌}
+use Rattle.std.proofs.Common.{◌≡◌, ℕ, Bool, true, false, nat_eq, List, [], ◌∷◌, ◌++◌, length, Result, Ok, Err, refl, sym, ap, ◌∙◌, append_assoc, append-nil, arith, inl, inr, cond}
+use Rattle.std.specs.Prelude.{◌==◌}
 use Rattle.std.specs.List.{list_any}
-use Rattle.std.proofs.lemmas.Bool.{cases_Bool, both_ways, eq-eqb, eqb-true, cond-true, cond-false}
+use Rattle.std.proofs.lemmas.Bool.{cases_Bool, both_ways, eq-eqb, eqb-true}
 use Rattle.lab_defs_text.specs.Faults.{TextFault, extra_row}
 use Rattle.lab_defs_text.specs.Steps.{◌>>=◌}
 use Rattle.lab_defs_text.specs.Words.{Bytes}
@@ -58,9 +58,9 @@ pub eqb_turned : (i k : ℕ) → (i == k) ≡ (k == i)
 eqb_turned i k = elim (cases_Bool (i == k)) [
   | inl t ↦ t ∙ sym (eq-eqb k i (sym (eqb-true i k t)))
   | inr f ↦ f ∙ sym (elim (cases_Bool (k == i)) [
-      | inl t ↦ absurd (both_ways (i == k) f (eq-eqb i k (sym (eqb-true k i t))))
-      | inr g ↦ g
-    ])
+    | inl t ↦ absurd (both_ways (i == k) f (eq-eqb i k (sym (eqb-true k i t))))
+    | inr g ↦ g
+  ])
 ]
 
 -- a joint action has a row where its number stands

@@ -21,7 +21,10 @@ pub struct NumberedPlaces {
 }
 
 /// Numbers the names of actions in the order in which they first stand.
-pub fn numbered_places(alloc: Global, places: Vec<OrderedPlace>) -> Result<NumberedPlaces, AllocError>
+pub fn numbered_places(
+    alloc: Global,
+    places: Vec<OrderedPlace>,
+) -> Result<NumberedPlaces, AllocError>
     requires { list_all totals_fit places.items ≡ true }
     ensures places { IfOk result (λ n. map (place_model n.actions) n.places.items ≡ map ordered_place_of places.items) }
     ensures actions { IfOk result (λ n. n.actions ≡ action_names [] (map ordered_place_of places.items)) }

@@ -126,7 +126,8 @@ fn place_row(
 fn joint_action(one: &NameTable, two: &NameTable, row: &KnownRow) -> Result<u64, AssembleFault>
     ensures { Agrees (λ n. n) assemble_fault result (action_of one.now two.now (known_row_of row.now)) }
 {
-    let (Some(first), Some(second)) = (one.find(row.first.as_str()), two.find(row.second.as_str())) else {
+    let (Some(first), Some(second)) = (one.find(row.first.as_str()), two.find(row.second.as_str()))
+    else {
         return Err(AssembleFault::ExtraRow { line: row.line });
     };
     Ok(first as u64 * two.count() as u64 + second as u64)

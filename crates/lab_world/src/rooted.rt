@@ -42,5 +42,8 @@ pub fn rooted_places(
 fn is_world(places: &[OrderedPlace], number: u32) -> bool
     ensures { result ≡ is_world_at number (map ordered_place_of places.now) }
 {
-    matches!(places.get(number as usize), Some(OrderedPlace::World { .. }))
+    matches!(
+        places.get(number as usize),
+        Some(OrderedPlace::World { .. })
+    )
 }

@@ -1,4 +1,4 @@
-use Rattle.std.proofs.Common.{◌≡◌, ◌∙◌, sym, refl}
+use Rattle.std.proofs.Common.{◌∙◌, sym, refl}
 use Rattle.lab_world.proofs.ActionNameLemmas.{StandsAt, stands_at, stands_nowhere}
 use Rattle.lab_world.proofs.numbered.action_id.Goals as goal
 

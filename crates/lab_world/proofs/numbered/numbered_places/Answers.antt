@@ -1,4 +1,4 @@
-use Rattle.std.proofs.Common.{◌≡◌, ◌∙◌, ◌++◌, ◌∷◌, [], List, map, true, ap, sym, subst}
+use Rattle.std.proofs.Common.{◌≡◌, ◌∙◌, ◌++◌, ◌∷◌, List, map, true, ap, sym, subst}
 use Rattle.std.specs.List.{list_all}
 use Rattle.std.specs.Vec.Iter.{into_iter_items}
 use Rattle.std.proofs.lemmas.Bool.{and_parts}
@@ -21,7 +21,7 @@ loop-place-preserved c =
     let here : into_iter_items c.loop-place.place-iterator ≡ item ∷ rest = c.in-Some.ensures.steps.0 in
     let places = ap (map ordered_place_of) here in
     let pushed = place_pushed before after c.loop-place.found.items c.push.new.self.items c.in_ok-numbered_place.field-0 m (map ordered_place_of c.args.places.items) left c.in_ok-numbered_place.ensures.actions c.in_ok-push.ensures.items
-        c.in_ok-numbered_place.ensures.place c.in_ok-numbered_place.ensures.fits c.loop-place.invariant.fits (ap (λ ms. map (place_model before) c.loop-place.found.items ++ ms) (sym places) ∙ c.loop-place.invariant.places) in
+    c.in_ok-numbered_place.ensures.place c.in_ok-numbered_place.ensures.fits c.loop-place.invariant.fits (ap (λ ms. map (place_model before) c.loop-place.found.items ++ ms) (sym places) ∙ c.loop-place.invariant.places) in
     record {
       table = ap (λ (xs : List Bytes). action_names xs left) c.in_ok-numbered_place.ensures.actions ∙ action_names_first before m left ∙ ap (action_names before) (sym places) ∙ c.loop-place.invariant.table;
       places = pushed.places;

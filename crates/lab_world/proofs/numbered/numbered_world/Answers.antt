@@ -1,10 +1,9 @@
-use Rattle.std.proofs.Common.{◌≡◌, ◌∙◌, List, length, map, true, string_bytes, refl, ap, sym, subst}
+use Rattle.std.proofs.Common.{◌∙◌, length, map, string_bytes, refl, ap}
 use Rattle.lab_defs_text.specs.Games as model
-use Rattle.lab_world.specs.declared.place.ActionId.{ActionId}
 use Rattle.lab_world.specs.declared.place.World.{World}
 use Rattle.lab_world.specs.Models.{row_model, action_list}
 use Rattle.lab_world.proofs.ActionNameLemmas.{ids_below}
-use Rattle.lab_world.proofs.PlaceLemmas.{WorldNamed, world_named}
+use Rattle.lab_world.proofs.PlaceLemmas.{world_named}
 use Rattle.lab_world.proofs.numbered.numbered_world.Goals as goal
 
 pub returns-clause-world : goal.returns-clause-world

@@ -1,4 +1,4 @@
-use Rattle.std.proofs.Common.{◌≡◌, [], List, map, true, ap, sym, subst, ◌∙◌, refl, rules}
+use Rattle.std.proofs.Common.{◌≡◌, [], List, map, ap, ◌∙◌, rules}
 use Rattle.std.specs.List.{list_all}
 use Rattle.std.specs.Vec.Iter.{into_iter_items}
 use Rattle.lab_defs_text.specs.Assembly.{ordered}

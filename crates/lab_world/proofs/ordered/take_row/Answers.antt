@@ -1,4 +1,4 @@
-use Rattle.std.proofs.Common.{◌≡◌, nat_eq, List, Option, Some, None, position, ap, sym, ◌∙◌, rules}
+use Rattle.std.proofs.Common.{◌≡◌, nat_eq, List, Some, None, position, ap, sym, ◌∙◌, rules}
 use Rattle.std.specs.Option.{option_map}
 use Rattle.lab_defs_text.specs.Assembly.{row_of}
 use Rattle.lab_world.specs.declared.place.Outcome.{Outcome}

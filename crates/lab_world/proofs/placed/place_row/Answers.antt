@@ -1,8 +1,7 @@
-use Rattle.std.proofs.Common.{◌≡◌, ◌∷◌, [], ◌++◌, ℕ, List, Bool, true, false, nat_eq, cond, ap, sym, ◌∙◌}
+use Rattle.std.proofs.Common.{◌≡◌, ◌∷◌, [], ◌++◌, ℕ, List, false, nat_eq, cond, ap, sym, ◌∙◌}
 use Rattle.std.specs.List.{list_any}
 use Rattle.lab_world.specs.declared.place.Outcome.{Outcome}
 use Rattle.lab_world.specs.Stages.{known_row_of, numbered_rows, placed_rows_of}
-use Rattle.lab_defs_text.specs.Assembly.{taken}
 use Rattle.lab_world.proofs.RowLemmas.{taken_number, numbered_push, row_taken, row_new}
 use Rattle.lab_world.proofs.placed.place_row.Goals as goal
 
@@ -21,5 +20,5 @@ returns-clause-row c =
     row_new c.args.one.now c.args.two.now (placed_rows_of c.args.found.now) (numbered_rows c.insert.new.self.keys c.push.new.self.items) (known_row_of c.args.row) k c.in_ok-number.ensures
     (taken_number k keys items c.requires.even ∙ none)
     (ap (λ (ks : List ℕ). numbered_rows ks c.push.new.self.items) made
-     ∙ ap (λ (oss : List (List Outcome)). numbered_rows (keys ++ k ∷ []) oss) c.in_ok-push.ensures.items
-     ∙ numbered_push keys items k c.args.row.outcomes c.requires.even)
+    ∙ ap (λ (oss : List (List Outcome)). numbered_rows (keys ++ k ∷ []) oss) c.in_ok-push.ensures.items
+    ∙ numbered_push keys items k c.args.row.outcomes c.requires.even)

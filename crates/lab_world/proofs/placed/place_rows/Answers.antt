@@ -1,6 +1,5 @@
 use Rattle.std.proofs.Common.{◌≡◌, [], List, ℕ, length, map, ap, sym, ◌∙◌, rules}
 use Rattle.std.specs.Vec.Iter.{into_iter_items}
-use Rattle.lab_world.specs.declared.place.Outcome.{Outcome}
 use Rattle.lab_world.specs.declared.stages.KnownRow.{KnownRow}
 use Rattle.lab_world.specs.Stages.{known_row_of, numbered_rows}
 use Rattle.lab_world.proofs.RowLemmas.{rows_on, rows_first}

@@ -1,4 +1,4 @@
-use Rattle.std.proofs.Common.{◌≡◌, [], map}
+use Rattle.std.proofs.Common.{[], map}
 use Rattle.lab_world.specs.Drafts.{part_place_of}
 use Rattle.lab_world.specs.Stages.{known_place_of}
 use Rattle.lab_world.proofs.PartLemmas.{knowns_apart}

@@ -1,7 +1,6 @@
-use Rattle.std.proofs.Common.{◌≡◌, [], List, Option, Result, Ok, Err, map, true, string_bytes, refl, ap, sym, subst, ◌∙◌, rules}
+use Rattle.std.proofs.Common.{◌≡◌, [], List, Result, Err, map, true, ap, sym, subst, ◌∙◌}
 use Rattle.std.specs.List.{list_all}
 use Rattle.std.proofs.lemmas.Result.{err_from_is_err_and}
-use Rattle.lab_defs_text.specs.Words.{Bytes}
 use Rattle.lab_defs_text.specs.Agreement.{Agrees, FaultAgrees}
 use Rattle.lab_defs_text.specs.Faults.{TextFault}
 use Rattle.lab_defs_text.specs.Assembly.{assembled}
@@ -9,13 +8,11 @@ use Rattle.lab_defs_text.specs.Parts.{part_ok}
 use Rattle.lab_world.specs.declared.parts.AssembleFault.{AssembleFault}
 use Rattle.lab_world.specs.declared.parts.PartPlace.{PartPlace}
 use Rattle.lab_world.specs.declared.game.Game.{Game}
-use Rattle.lab_world.specs.declared.place.Place.{Place}
-use Rattle.lab_world.specs.declared.place.WorldId.{WorldId}
 use Rattle.lab_world.specs.Drafts.{part_place_of, draft_of, assemble_fault}
 use Rattle.lab_world.specs.Games.{game_model}
 use Rattle.lab_world.specs.Models.{place_model}
 use Rattle.lab_world.specs.Wholes.{action_names, place_fits}
-use Rattle.lab_world.specs.Stages.{Rooted, rooted, rooted_of, ordered_place_of}
+use Rattle.lab_world.specs.Stages.{Rooted, rooted_of}
 use Rattle.lab_world.proofs.PartLemmas.{named, parts_are_draft, rooted_same, assembled_game, assembled_fault, whole_is}
 use Rattle.lab_world.proofs.game.Game.assemble.Goals as goal
 
@@ -43,8 +40,10 @@ invariant_of-result c =
     let r = rooted_of c.in_ok-places.field-0 in
     let places : map (place_model actions) c.from_vec.result ≡ r.places = ap (map (place_model actions)) c.from_vec.ensures ∙ c.in_ok-actions.ensures.places in
     let made = assembled_game p r actions c.from_vec.result c.requires.named (same ∙ c.in_ok-places.ensures.places) places in
-    record { whole = whole_is (draft_of p) p.grid p.horizon p.recall p.tokens p.names actions c.from_vec.result (record { 0 = c.in_ok-places.field-0.root }) c.requires.fit made
-        (ap (list_all (place_fits _)) c.from_vec.ensures ∙ c.in_ok-actions.ensures.fits) (c.in_ok-actions.ensures.actions ∙ ap (action_names []) (sym places)) }
+    record {
+      whole = whole_is (draft_of p) p.grid p.horizon p.recall p.tokens p.names actions c.from_vec.result (record { 0 = c.in_ok-places.field-0.root }) c.requires.fit made
+          (ap (list_all (place_fits _)) c.from_vec.ensures ∙ c.in_ok-actions.ensures.fits) (c.in_ok-actions.ensures.actions ∙ ap (action_names []) (sym places));
+    }
 
 pub returns : goal.returns
 returns c =
