@@ -9,8 +9,8 @@ use Rattle.lab_defs_game.specs.Nodes.{nodes}
 use Rattle.lab_defs_game.specs.Forms.{game_actions}
 use Rattle.lab_defs_game.specs.Unfolding.{unfold_fault}
 use Rattle.lab_defs_game.specs.Recall.{recall_fault}
-use Rattle.lab_defs_value.specs.Tables.{first_weight}
-use Rattle.lab_defs_value.specs.Replies.{strategy_of}
+use Rattle.lab_defs_value.specs.Tables.{factor}
+use Rattle.lab_defs_value.specs.Replies.{strategy_of, other}
 use Rattle.lab_defs_value.specs.BestValues.{IsBest}
 use Rattle.lab_defs_value.specs.Bounds.{at}
 use Rattle.lab_defs_value.specs.Allowances.{lies_on}
@@ -45,9 +45,9 @@ pub record IsGuarded (g : GameModel) (p : Plays) (seat : ℕ) : Type 0 where
   -- by every rule, the strategy as it stands passes at every node where the seat decides
   pub passes : (q : Proposal) → q.seat ≡ seat → q.node < length (nodes g) → 0 < inside_count g q → PassesAt g p q (table_of p seat)
 
--- the weight of an action at a set
+-- the weight of an action at a set, 1 at a pass, which has none in the table
 abbrev pub weight_at : GameModel → ℕ → List ℕ → ℕ → ℕ → ℕ
-weight_at g seat table set action = slice_index table (first_weight (game_actions g seat) set + action)
+weight_at g seat table set action = factor (game_actions g seat) table (record { set = set; action = action })
 
 -- the weights of a seat at the sets outside a node's subgame stay as they were
 abbrev pub SameOutside : GameModel → Proposal → (before after : List ℕ) → Type 0
@@ -63,6 +63,7 @@ pub record Judges (g : GameModel) (before after : Plays) (q : Proposal) (reply :
   pub exactly : (tells_accepted reply ≡ true) ↔ PassesAt g before q (proposed_table g before q)
   pub inside : tells_accepted reply ≡ true → table_of after q.seat ≡ proposed_table g before q
   pub outside : SameOutside g q (table_of before q.seat) (table_of after q.seat)
+  pub others : (table_of after (other q.seat) ≡ table_of before (other q.seat)) × (bounds_of after (other q.seat) ≡ bounds_of before (other q.seat))
   pub kept : tells_accepted reply ≡ false → after ≡ before
 
 -- what a command does to the strategies: a proposal is judged, and so is what a re-solve finds; any other command changes nothing
