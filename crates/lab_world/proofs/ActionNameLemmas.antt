@@ -26,6 +26,7 @@ record StandsFrom (name : Bytes) (ns : List Bytes) (i k : ℕ) : Type 0 where
   same : name_of ns place ≡ name
   stands : stands_in name ns ≡ true
 
+-- a name that is found stands there
 stands_from : (name : Bytes) (ns : List Bytes) (i k : ℕ) → position_from (bytes_eq name) i ns ≡ Some k → StandsFrom name ns i k
 stands_from name [] i k e = absurd cc
 stands_from name (n ∷ ns) i k e = elim (cases_Bool (bytes_eq name n)) [

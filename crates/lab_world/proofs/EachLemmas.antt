@@ -20,6 +20,7 @@ before_all : {E A B : Type 0} (f : A → Result B E) (found : List B) (xs : List
 before_all f found xs (Err e) h = refl
 before_all f found xs (Ok y) h = h y ∙ before_rest found y (each f xs)
 
+-- what is made so far stands before what is made of the rest
 each_behind : {E A B : Type 0} (f : A → Result B E) (found : List B) (xs : List A) → each_on f found xs ≡ (each f xs >>= λ ys. Ok (found ++ ys))
 each_behind f found [] = ap Ok (sym (append-nil found))
 each_behind f found (x ∷ xs) = before_all f found xs (f x) (λ y. each_behind f (found ++ y ∷ []) xs)

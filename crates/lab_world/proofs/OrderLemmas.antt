@@ -47,6 +47,7 @@ row_later k i j x ks os oss f r = record {
   ];
 }
 
+-- a number that is found has a row there
 row_from : (k i j : ℕ) (ks : List ℕ) (oss : List (List Outcome)) → position_from (nat_eq k) i ks ≡ Some j → RowStands k i j ks oss
 row_from k i j [] oss e = absurd cc
 row_from k i j (x ∷ ks) [] e = elim (cases_Bool (k == x)) [
@@ -58,6 +59,7 @@ row_from k i j (x ∷ ks) (os ∷ oss) e = elim (cases_Bool (k == x)) [
   | inr f ↦ row_later k i j x ks os oss (eqb_turned x k ∙ f) (row_from k (i + 1) j ks oss (rw f at e))
 ]
 
+-- a number that is not found has no row
 none_from : (k i : ℕ) (ks : List ℕ) (oss : List (List Outcome)) → position_from (nat_eq k) i ks ≡ None → row_of k (numbered_rows ks oss) ≡ None
 none_from k i [] oss e = refl
 none_from k i (x ∷ ks) [] e = refl

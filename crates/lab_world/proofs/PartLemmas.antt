@@ -72,6 +72,7 @@ named_more ns ts n p names ps a b c r = record {
   ok_same = rw (c, r.ok_same) refl;
 }
 
+-- places with as many names
 pub named : (ns ts names : List Bytes) (ps : List PartPlace) → length names ≡ length ps → Named ns ts names ps
 named ns ts [] [] e = record { names_are = refl; known_same = refl; ok_same = refl }
 named ns ts [] (p ∷ ps) e = absurd (omega (arith, e))

@@ -63,6 +63,7 @@ pub record WorldNamed (actions : List Bytes) (w : World) (m : model.World) : Typ
 world_same : (a b c d : List Bytes) (rows others : List (List model.Outcome)) → a ≡ c → b ≡ d → rows ≡ others → ◌≡◌ {A = model.World} (record { one = a; two = b; rows = rows }) (record { one = c; two = d; rows = others })
 world_same a b c d rows others p q r = cc
 
+-- the actions of a world by numbers are those of its model
 pub world_named : (middle actions : List Bytes) (w : World) (m : model.World) → actions ≡ with_new middle m.two → action_list middle w.one ≡ m.one → ids_below (length middle) w.one ≡ true → action_list actions w.two ≡ m.two → ids_below (length actions) w.two ≡ true
     → map row_model w.rows ≡ m.rows → list_all total_fits w.rows ≡ true → WorldNamed actions w m
 world_named middle actions w m table one one_below two two_below rows totals =

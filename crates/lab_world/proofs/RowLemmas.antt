@@ -38,6 +38,7 @@ before_known : (one two : List Bytes) (before : List PlacedRow) (r : KnownRow) (
 before_known one two before r rs (Err e) h = refl
 before_known one two before r rs (Ok k) h = before_new one two before r rs k (unless_taken r.line k before) (h (before ++ record { number = k; outcomes = r.outcomes } ∷ []))
 
+-- the rows so far stand before those that the rest gives
 rows_behind : (one two : List Bytes) (before : List PlacedRow) (rs : List KnownRow) → rows_on one two before rs ≡ (place_rows one two before rs >>= λ ps. Ok (before ++ ps))
 rows_behind one two before [] = ap Ok (sym (append-nil before))
 rows_behind one two before (r ∷ rs) = before_known one two before r rs (action_of one two r) (λ after. rows_behind one two after rs)
@@ -83,6 +84,7 @@ numbered_push (i ∷ ks) (x ∷ xs) k os e = ap (λ (ps : List PlacedRow). recor
 abbrev added : List PlacedRow → KnownRow → ℕ → Bool → Result (List PlacedRow) TextFault
 added before r k b = cond b (Err (extra_row r.line)) (Ok k) >>= λ i. Ok (before ++ record { number = k; outcomes = r.outcomes } ∷ [])
 
+-- by whether the joint action has a row already
 with_row_is : (one two : List Bytes) (before : List PlacedRow) (r : KnownRow) (k : ℕ) (b : Bool) → action_of one two r ≡ Ok k → taken k before ≡ b → with_row one two before r ≡ added before r k b
 with_row_is one two before r k b known there =
     ap (λ a. a >>= λ i. unless_taken r.line i before >>= λ j. Ok (before ++ record { number = i; outcomes = r.outcomes } ∷ [])) known ∙ ap (added before r k) there

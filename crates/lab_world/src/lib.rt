@@ -15,3 +15,6 @@ mod stages;
 pub use game::Game;
 pub use parts::{AssembleFault, PartOutcome, PartPlace, PartRow, Parts};
 pub use place::{ActionId, Outcome, Place, Recall, Row, TokenId, World, WorldId};
+
+#[cfg(test)]
+mod tests;
