@@ -1,0 +1,8 @@
+//! The histories of a game: what each leads to, its chance, and what they all make of the size of numbers.
+#![tactic(auto)]
+
+mod history;
+mod steps;
+mod worlds;
+
+pub use history::{History, HistoryId, Scale, Step, UnfoldFault};

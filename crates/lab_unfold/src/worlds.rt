@@ -1,0 +1,34 @@
+//! The places of a game by their numbers.
+
+ghost use Rattle.std.specs.Prelude.{◌≡◌, false, IfSome, IfNone};
+ghost use Rattle.lab_defs_text.specs.Games.{a_world};
+ghost use Rattle.lab_defs_text.specs.Texts.{place_at, is_world};
+ghost use Rattle.lab_defs_game.specs.Histories.{payoff_at};
+ghost use Rattle.lab_world.specs.Games.{game_model};
+ghost use Rattle.lab_world.specs.Models.{world_model};
+ghost use Rattle.lab_unfold.specs.Filled.{IsFilled};
+
+use lab_world::{Game, Place, World, WorldId};
+
+/// The world with this number, if it is one.
+pub fn world_at(game: &Game, id: WorldId) -> Option<&World>
+    ensures some { IfSome result (λ w. place_at (game_model game.now) id.0
+        ≡ a_world (world_model game.now.actions w.now)) }
+    ensures filled { IfSome result (λ w. IsFilled w.now) }
+    ensures none { IfNone result (is_world (place_at (game_model game.now) id.0) ≡ false) }
+{
+    match game.places.as_slice().get(id.0 as usize) {
+        Some(Place::World(world)) => Some(world),
+        _ => None,
+    }
+}
+
+/// What the end with this number pays seat 1; 0 where it is none.
+pub fn payoff_of(game: &Game, id: WorldId) -> i32
+    ensures { result ≡ payoff_at (place_at (game_model game.now) id.0) }
+{
+    match game.places.as_slice().get(id.0 as usize) {
+        Some(Place::End(payoff)) => *payoff,
+        _ => 0,
+    }
+}
