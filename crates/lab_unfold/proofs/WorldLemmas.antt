@@ -1,5 +1,5 @@
 -- What holds of the worlds of a game.
-use Rattle.std.proofs.Common.{◌≡◌, ℕ, zero, suc, ◌*◌, ◌<◌, true, List, [], ◌∷◌, length, get_or, map, refl, sym, ◌∙◌, ap, subst, arith}
+use Rattle.std.proofs.Common.{◌≡◌, ℕ, zero, suc, ◌*◌, ◌<◌, ◌≤◌, true, List, [], ◌∷◌, length, get_or, map, refl, sym, ◌∙◌, ap, subst, arith}
 use Rattle.std.proofs.lemmas.List.{length-map}
 use Rattle.std.specs.Prelude.{◌&&◌, ◌==◌, nat_lt, nat_le, slice_index_or}
 use Rattle.std.specs.List.{list_all}
@@ -78,3 +78,7 @@ filled g i p w l e is =
       count = sym (length-map w.rows row_model) ∙ fine.count ∙ ap (λ n. n * length (action_list g.actions w.two)) long1 ∙ ap (λ n. length w.one * n) long2;
       rows = row_is (game_model g) w.rows fine.rows (and_parts two totals (and_parts one (two && totals) fits).1).1;
     }
+
+-- the horizon is at most 32
+pub horizon_small : (g : Game) → g.horizon ≤ 32
+horizon_small g = leb-true g.horizon 32 (and_parts (nat_le 1 g.horizon) (nat_le g.horizon 32) (game_fine (game_model g) (whole_parts g).0).horizon).1

@@ -1,3 +1,5 @@
 pub mod Values
 pub mod Filled
 pub mod Children
+pub mod Levels
+pub mod Faults

@@ -2,6 +2,7 @@
 #![tactic(auto)]
 
 mod history;
+mod levels;
 mod steps;
 mod worlds;
 

@@ -35,7 +35,7 @@ pub fn push_children(
     history: History,
 ) -> Result<(), Stop>
     requires few { length items.old.items ≤ 65536 }
-    requires depth { history.depth < 32 }
+    requires depth { history.depth ≤ 32 }
     ensures ok { OnOk result (items.new.items ≡ items.old.items
         ++ children_in (game_model game.now) parent history.world.0 (history.depth + 1)) }
     ensures few { OnOk result (length items.new.items ≤ 65536) }
