@@ -1,3 +1,5 @@
 pub mod ChildLemmas
 pub mod WorldLemmas
 pub mod LevelLemmas
+pub mod ParentLemmas
+pub mod PayoffLemmas

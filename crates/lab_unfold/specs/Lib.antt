@@ -3,3 +3,4 @@ pub mod Filled
 pub mod Children
 pub mod Levels
 pub mod Faults
+pub mod Units

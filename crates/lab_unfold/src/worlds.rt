@@ -3,7 +3,6 @@
 ghost use Rattle.std.specs.Prelude.{◌≡◌, false, IfSome, IfNone};
 ghost use Rattle.lab_defs_text.specs.Games.{a_world};
 ghost use Rattle.lab_defs_text.specs.Texts.{place_at, is_world};
-ghost use Rattle.lab_defs_game.specs.Histories.{payoff_at};
 ghost use Rattle.lab_world.specs.Games.{game_model};
 ghost use Rattle.lab_world.specs.Models.{world_model};
 ghost use Rattle.lab_unfold.specs.Filled.{IsFilled};
@@ -20,15 +19,5 @@ pub fn world_at(game: &Game, id: WorldId) -> Option<&World>
     match game.places.as_slice().get(id.0 as usize) {
         Some(Place::World(world)) => Some(world),
         _ => None,
-    }
-}
-
-/// What the end with this number pays seat 1; 0 where it is none.
-pub fn payoff_of(game: &Game, id: WorldId) -> i32
-    ensures { result ≡ payoff_at (place_at (game_model game.now) id.0) }
-{
-    match game.places.as_slice().get(id.0 as usize) {
-        Some(Place::End(payoff)) => *payoff,
-        _ => 0,
     }
 }
