@@ -3,3 +3,4 @@ pub mod WorldLemmas
 pub mod LevelLemmas
 pub mod ParentLemmas
 pub mod PayoffLemmas
+pub mod UnitLemmas

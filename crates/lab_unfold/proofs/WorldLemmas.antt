@@ -31,7 +31,7 @@ whole_parts g =
     (whole.0, (and_parts fits names whole.1).0)
 
 -- outcomes weigh something together
-total_pos : (g : GameModel) (os : List Outcome) → 0 < length os → list_all (outcome_ok g) os ≡ true → 0 < row_total os
+pub total_pos : (g : GameModel) (os : List Outcome) → 0 < length os → list_all (outcome_ok g) os ≡ true → 0 < row_total os
 total_pos g [] some ok = absurd (omega (arith, some))
 total_pos g (o ∷ os) some ok =
     let first = outcome_fine g o (and_parts (outcome_ok g o) (list_all (outcome_ok g) os) ok).0 in

@@ -36,9 +36,10 @@ pub fn scale(game: &Game, items: &[History]) -> Option<u128>
 fn product(a: u128, b: u128) -> Option<u128>
     requires first { a ≤ 2 ^ 80 }
     requires second { b ≤ 2 ^ 80 }
+    requires some { 0 < b }
     ensures { result ≡ told_scale (a * b) }
 {
-    if b != 0 && a > SCALE_LIMIT / b {
+    if a > SCALE_LIMIT / b {
         return None;
     }
     Some(a * b)
