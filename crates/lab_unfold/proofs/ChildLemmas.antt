@@ -1,13 +1,17 @@
 -- The histories that are a step longer than another, as they are made and as they are defined.
-use Rattle.std.proofs.Common.{◌≡◌, ℕ, zero, suc, ◌+◌, ◌-◌, ◌*◌, ◌<◌, ◌≤◌, List, [], ◌∷◌, ◌++◌, length, get_or, map, flat_map, false, Some, refl, sym, ap, ◌∙◌, subst, arith, append_assoc, length-append}
-use Rattle.std.specs.Prelude.{slice_index_or}
+use Rattle.std.proofs.Common.{◌≡◌, ℕ, zero, suc, ◌+◌, ◌-◌, ◌*◌, ◌<◌, ◌≤◌, List, [], ◌∷◌, ◌++◌, length, get_or, map, flat_map, true, false, Some, refl, sym, ap, ◌∙◌, subst, arith, append_assoc, length-append}
+use Rattle.std.specs.Prelude.{slice_index_or, ◌==◌, ◌&&◌, nat_lt}
 use Rattle.std.specs.List.{range_with_len}
+use Rattle.std.proofs.lemmas.Bool.{and_parts, eqb-true, ltb-true}
 use Rattle.std.proofs.lemmas.List.{length-map, map-append}
+use Rattle.std.proofs.lemmas.List as below
 use Rattle.std.proofs.Math.ListN.{get_or-map}
 use Rattle.std.proofs.lemmas.Simd.{map-map}
 use Rattle.lab_math.proofs.Ranges.{flat_map_range_same}
 use Rattle.lab_defs_text.specs.Games as text
 use Rattle.lab_defs_text.specs.Texts.{place_at, is_world}
+use Rattle.lab_defs_game.specs.Chance.{row_total}
+use Rattle.lab_defs_game.specs.Laws.{IsStep}
 use Rattle.lab_defs_game.specs.Histories as model
 use Rattle.lab_world.specs.declared.place.ActionId.{ActionId}
 use Rattle.lab_world.specs.declared.place.Outcome.{Outcome}
@@ -20,7 +24,8 @@ use Rattle.lab_defs_game.proofs.Legal.{step_at, steps_by}
 use Rattle.lab_defs_game.proofs.Suffixes.{no_steps}
 use Rattle.lab_unfold.specs.declared.history.HistoryId.{HistoryId}
 use Rattle.lab_unfold.specs.declared.history.History.{History}
-use Rattle.lab_unfold.specs.Children.{row_children, outcomes_at, second_children, first_children, child_in, children_in}
+use Rattle.lab_unfold.specs.Filled.{is_row, row_at}
+use Rattle.lab_unfold.specs.Children.{row_children, second_children, first_children, child_in, children_in}
 
 -- ---- loops
 
@@ -44,11 +49,11 @@ row_length parent depth a b k [] = refl
 row_length parent depth a b k (o ∷ os) = ap suc (row_length parent depth a b (k + 1) os)
 
 -- of the second seat's actions from b on the first one's row is next
-pub second_next : (parent : HistoryId) (depth : ℕ) (w : World) (a b n : ℕ) (os : List Outcome) (items all : List History) → b < n → os ≡ outcomes_at w (a * length w.two + b)
+pub second_next : (parent : HistoryId) (depth : ℕ) (w : World) (a b n : ℕ) (os : List Outcome) (items all : List History) → b < n → os ≡ (row_at w (a * length w.two + b)).outcomes
     → items ++ second_children parent depth w a b (n - b) ≡ all → items ++ (row_children parent depth a b 0 os ++ second_children parent depth w a (b + 1) (n - (b + 1))) ≡ all
 second_next parent depth w a b n os items all l o e =
     ap (λ (os : List Outcome). items ++ (row_children parent depth a b 0 os ++ second_children parent depth w a (b + 1) (n - (b + 1)))) o
-    ∙ ap (λ ks. items ++ flat_map (λ b. row_children parent depth a b 0 (outcomes_at w (a * length w.two + b))) ks) (sym (range_cons b n l))
+    ∙ ap (λ ks. items ++ flat_map (λ b. row_children parent depth a b 0 (row_at w (a * length w.two + b)).outcomes) ks) (sym (range_cons b n l))
     ∙ e
 
 -- of the first seat's actions from a on the first one's rows are next
@@ -91,7 +96,7 @@ two_length : (actions : List Bytes) (is : List ActionId) → length (action_list
 two_length actions is = length-map is (λ (i : ActionId). slice_index_or actions i.0 [])
 
 -- the row of two actions
-row_of_is : (actions : List Bytes) (w : World) (a b : ℕ) → model.row_of (world_place actions w) a b ≡ map outcome_model (outcomes_at w (a * length w.two + b))
+row_of_is : (actions : List Bytes) (w : World) (a b : ℕ) → model.row_of (world_place actions w) a b ≡ map outcome_model (row_at w (a * length w.two + b)).outcomes
 row_of_is actions w a b =
     ap (λ m. slice_index_or (map row_model w.rows) (a * m + b) []) (two_length actions w.two)
     ∙ get_or-map row_model w.rows (a * length w.two + b) (record { total = 0; outcomes = [] })
@@ -99,7 +104,7 @@ row_of_is actions w a b =
 -- the children by the steps of two actions
 row_steps : (actions : List Bytes) (w : World) (parent : HistoryId) (depth a b : ℕ)
     → map (child_at (world_place actions w) parent depth) (map (step_at a b) (range_with_len 0 (length (model.row_of (world_place actions w) a b))))
-    ≡ row_children parent depth a b 0 (outcomes_at w (a * length w.two + b))
+    ≡ row_children parent depth a b 0 (row_at w (a * length w.two + b)).outcomes
 row_steps actions w parent depth a b =
     map-map (child_at p parent depth) (step_at a b) (range_with_len 0 (length (model.row_of p a b)))
     ∙ ap (λ n. map (λ o. child_at p parent depth (step_at a b o)) (range_with_len 0 n)) (ap length (row_of_is actions w a b) ∙ length-map os outcome_model)
@@ -109,7 +114,7 @@ row_steps actions w parent depth a b =
     p = world_place actions w
 
     os : List Outcome
-    os = outcomes_at w (a * length w.two + b)
+    os = (row_at w (a * length w.two + b)).outcomes
 
     none : Outcome
     none = record { weight = 0; next = record { 0 = 0 }; own1 = record { 0 = 0 }; own2 = record { 0 = 0 }; public = record { 0 = 0 } }
@@ -127,7 +132,7 @@ second_steps : (actions : List Bytes) (w : World) (parent : HistoryId) (depth a 
 second_steps actions w parent depth a =
     map_flat (child_at p parent depth) row (range_with_len 0 (model.actions_at 2 p))
     ∙ ap (λ n. flat_map (λ b. map (child_at p parent depth) (row b)) (range_with_len 0 n)) (two_length actions w.two)
-    ∙ flat_map_range_same (λ b. map (child_at p parent depth) (row b)) (λ b. row_children parent depth a b 0 (outcomes_at w (a * length w.two + b))) 0 (length w.two)
+    ∙ flat_map_range_same (λ b. map (child_at p parent depth) (row b)) (λ b. row_children parent depth a b 0 (row_at w (a * length w.two + b)).outcomes) 0 (length w.two)
     (λ b lo hi. row_steps actions w parent depth a b)
   where
     p : text.Place
@@ -156,3 +161,57 @@ children_is g actions w parent n depth e = ap (λ p. map (child_at p parent dept
 -- at an end there are none
 pub no_children : (g : text.GameModel) (parent : HistoryId) (n depth : ℕ) → is_world (place_at g n) ≡ false → children_in g parent n depth ≡ []
 no_children g parent n depth e = ap (map (child_in g parent n depth)) (no_steps (place_at g n) e)
+
+-- ---- one step
+
+-- a step that is open at a world has places of its actions and of an outcome
+pub step_open : (actions : List Bytes) (w : World) (p : text.Place) (s : model.Step) → p ≡ world_place actions w → IsStep p s
+    → (s.action1 < length w.one) × (s.action2 < length w.two) × (s.outcome < length (row_at w (s.action1 * length w.two + s.action2)).outcomes)
+step_open actions w p s e i =
+    let o = subst (λ q. IsStep q s) e i in
+    (
+      omega (arith, o.0, two_length actions w.one),
+      omega (arith, o.1, two_length actions w.two),
+      omega (arith, o.2, ap length (row_of_is actions w s.action1 s.action2), length-map (row_at w (s.action1 * length w.two + s.action2)).outcomes outcome_model),
+    )
+
+-- the total of its row
+pub total_is : (actions : List Bytes) (w : World) (p : text.Place) (s : model.Step) (r : Row) → p ≡ world_place actions w → r ≡ row_at w (s.action1 * length w.two + s.action2) → is_row r ≡ true
+    → r.total ≡ row_total (model.row_of p s.action1 s.action2)
+total_is actions w p s r e there ok =
+    let all = and_parts (nat_lt 0 (length r.outcomes)) ((r.total == row_total (row_model r)) && nat_lt 0 r.total) ok in
+    let same = and_parts (r.total == row_total (row_model r)) (nat_lt 0 r.total) all.1 in
+    eqb-true r.total (row_total (row_model r)) same.0 ∙ ap (λ (q : Row). row_total (row_model q)) there
+    ∙ ap row_total (sym (row_of_is actions w s.action1 s.action2)) ∙ ap (λ q. row_total (model.row_of q s.action1 s.action2)) (sym e)
+
+-- the weight of its outcome
+pub weight_is : (actions : List Bytes) (w : World) (g : text.GameModel) (n : ℕ) (s : model.Step) (r : Row) (d : Outcome) → place_at g n ≡ world_place actions w
+    → r ≡ row_at w (s.action1 * length w.two + s.action2) → s.outcome < length r.outcomes → (get_or r.outcomes s.outcome d).weight ≡ (model.outcome_of g n s).weight
+weight_is actions w g n s r d e there l =
+    ap (λ (o : text.Outcome). o.weight) (sym (below.get_or-map outcome_model r.outcomes s.outcome d none l))
+    ∙ ap (λ (q : Row). (get_or (map outcome_model q.outcomes) s.outcome none).weight) there
+    ∙ ap (λ os. (get_or os s.outcome none).weight) (sym (row_of_is actions w s.action1 s.action2))
+    ∙ ap (λ q. (get_or (model.row_of q s.action1 s.action2) s.outcome none).weight) (sym e)
+  where
+    none : text.Outcome
+    none = record { weight = 0; next = 0; own1 = 0; own2 = 0; public = 0 }
+
+-- a weight is at most the total
+weight_le : (os : List Outcome) (i : ℕ) (d : Outcome) → i < length os → (get_or os i d).weight ≤ row_total (map outcome_model os)
+weight_le [] i d l = absurd (omega (arith, l))
+weight_le (o ∷ os) zero d l = omega arith
+weight_le (o ∷ os) (suc i) d l = omega (arith, weight_le os i d (omega (arith, l)))
+
+-- at most that of its row
+pub weight_small : (r : Row) (i : ℕ) (d : Outcome) → is_row r ≡ true → i < length r.outcomes → (get_or r.outcomes i d).weight ≤ r.total
+weight_small r i d ok l =
+    let all = and_parts (nat_lt 0 (length r.outcomes)) ((r.total == row_total (row_model r)) && nat_lt 0 r.total) ok in
+    let same = and_parts (r.total == row_total (row_model r)) (nat_lt 0 r.total) all.1 in
+    omega (arith, weight_le r.outcomes i d l, eqb-true r.total (row_total (row_model r)) same.0)
+
+-- a row has outcomes and a total
+pub row_parts : (r : Row) → is_row r ≡ true → (0 < length r.outcomes) × (0 < r.total)
+row_parts r ok =
+    let all = and_parts (nat_lt 0 (length r.outcomes)) ((r.total == row_total (row_model r)) && nat_lt 0 r.total) ok in
+    let same = and_parts (r.total == row_total (row_model r)) (nat_lt 0 r.total) all.1 in
+    (ltb-true 0 (length r.outcomes) all.0, ltb-true 0 r.total same.1)

@@ -4,3 +4,5 @@ pub mod LevelLemmas
 pub mod ParentLemmas
 pub mod PayoffLemmas
 pub mod UnitLemmas
+pub mod SizeLemmas
+pub mod ChanceLemmas

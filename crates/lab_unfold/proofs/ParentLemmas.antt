@@ -10,15 +10,17 @@ use Rattle.lab_defs_text.specs.Games.{GameModel}
 use Rattle.lab_defs_text.specs.Texts.{place_at}
 use Rattle.lab_defs_game.specs.Histories as model
 use Rattle.lab_defs_game.specs.Laws.{history_cmp, step_cmp}
-use Rattle.lab_defs_game.specs.Sets.{decisions_from}
+use Rattle.lab_defs_game.specs.Sets.{decisions_from, most_decisions}
 use Rattle.lab_defs_game.proofs.GameLemmas.{Longer, history_cases}
 use Rattle.lab_defs_game.proofs.HistoryOrder.{history_total, nat_cmp-less}
 use Rattle.lab_defs_game.proofs.Legal.{length_push, history_legal}
 use Rattle.lab_defs_game.proofs.NumberLemmas.{number_lt, at_number}
 use Rattle.lab_unfold.specs.declared.history.HistoryId.{HistoryId}
 use Rattle.lab_unfold.specs.declared.history.History.{History}
-use Rattle.lab_unfold.specs.Values.{history_number, before_last, parent_in, history_in}
-use Rattle.lab_unfold.proofs.LevelLemmas.{ascending, number_is, parent_push}
+use Rattle.lab_unfold.specs.declared.history.Step.{Step}
+use Rattle.lab_unfold.specs.Values.{step_in, step_model, last_step, history_number, before_last, parent_in, history_in}
+use Rattle.lab_unfold.proofs.PayoffLemmas.{greatest_small}
+use Rattle.lab_unfold.proofs.LevelLemmas.{ascending, number_is, last_is, parent_push}
 
 -- the history with a number
 abbrev pub history_at : GameModel → ℕ → model.History
@@ -91,6 +93,18 @@ pub read_behind : (g : GameModel) (i : ℕ) (items : List History) (d : History)
 read_behind g i items d p all l e =
     parent_found g i p (omega (arith, l, all_length g items all)) (sym (ap (λ (h : History). h.parent) (read_is g i items d all l)) ∙ e)
 
+-- and its step
+pub read_step : (g : GameModel) (i j : ℕ) (items : List History) (d : History) → (b : Behind g i j) → items ≡ map (history_in g) (model.histories g) → i < length items
+    → (get_or items i d).step ≡ Some (step_in b.step)
+read_step g i j items d b all l = ap (λ (h : History). h.step) (read_is g i items d all l) ∙ ap last_step b.made ∙ last_is (history_at g j) b.step
+
+-- a step as the program has it is that step
+pub step_same : (s : Step) (t : model.Step) → ◌≡◌ {A = Option Step} (Some s) (Some (step_in t)) → step_model s ≡ t
+step_same s t e = ap step_model (inside s (step_in t) e)
+  where
+    inside : (s t : Step) → ◌≡◌ {A = Option Step} (Some s) (Some t) → s ≡ t
+    inside s t e = cc
+
 -- what is read has no parent where there is no step
 pub read_first : (g : GameModel) (i : ℕ) (items : List History) (d : History) → items ≡ map (history_in g) (model.histories g) → i < length items
     → (get_or items i d).parent ≡ None → history_at g i ≡ []
@@ -118,6 +132,13 @@ decisions_few g seat n (s ∷ h) =
     at false = omega arith
 
 -- and so no more than the horizon
+decisions_least : (g : GameModel) (seat : ℕ) (h : model.History) → In h (model.histories g) → decisions_from g seat g.root h ≤ g.horizon
+decisions_least g seat h i = omega (arith, decisions_few g seat g.root h, (history_legal g h i).1)
+
+-- so are those of the history with a number
 pub decisions_small : (g : GameModel) (seat i : ℕ) → i < length (model.histories g) → decisions_from g seat g.root (history_at g i) ≤ g.horizon
-decisions_small g seat i l =
-    omega (arith, decisions_few g seat g.root (history_at g i), (history_legal g (history_at g i) (in_get_or (model.histories g) i [] l)).1)
+decisions_small g seat i l = decisions_least g seat (history_at g i) (in_get_or (model.histories g) i [] l)
+
+-- and the most of all
+pub most_small : (g : GameModel) (seat : ℕ) → most_decisions g seat ≤ g.horizon
+most_small g seat = greatest_small (decisions_from g seat g.root) g.horizon (model.histories g) (λ h i. decisions_least g seat h i)

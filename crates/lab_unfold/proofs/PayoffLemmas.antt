@@ -1,8 +1,9 @@
 -- The greatest payoff of the histories that end, and of all.
-use Rattle.std.proofs.Common.{◌≡◌, ℕ, ◌≤◌, List, [], ◌∷◌, length, drop, map, filter, Bool, true, false, cond, refl, sym, ap, ◌∙◌, arith}
+use Rattle.std.proofs.Common.{◌≡◌, ℕ, ◌≤◌, List, [], ◌∷◌, length, drop, map, filter, Bool, true, false, cond, refl, sym, ap, ◌∙◌, arith, inl, inr}
 use Rattle.std.specs.Prelude.{ℤ, pos, max, not}
 use Rattle.std.specs.Int.RustNames.{unsigned_abs}
 use Rattle.std.proofs.Math.ListN.{drop_of_length-le}
+use Rattle.lab_math.proofs.Members.{In}
 use Rattle.lab_math.specs.Sums.{greatest_over}
 use Rattle.lab_defs_text.specs.Games.{GameModel, Place, a_world, an_end}
 use Rattle.lab_defs_text.specs.Texts.{place_at, is_world}
@@ -46,3 +47,8 @@ greatest_end f xs i top l e = nothing top ∙ ap (λ ys. max top (greatest_over 
 pub top_is : (g : GameModel) (items : List History) → items ≡ map (history_in g) (model.histories g)
     → greatest_over (λ (h : History). unsigned_abs (model.payoff_at (place_at g h.world.0))) items ≡ top_payoff g
 top_is g items e = ap (greatest_over (λ (h : History). unsigned_abs (model.payoff_at (place_at g h.world.0)))) e ∙ greatest_terminal g (model.histories g)
+
+-- values that are no greater than another have no greater greatest one
+pub greatest_small : {X : Type 0} (f : X → ℕ) (m : ℕ) (xs : List X) → ((x : X) → In x xs → f x ≤ m) → greatest_over f xs ≤ m
+greatest_small f m [] e = omega arith
+greatest_small f m (x ∷ xs) e = omega (arith, e x (inl refl), greatest_small f m xs (λ y i. e y (inr i)))

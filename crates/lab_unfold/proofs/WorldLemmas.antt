@@ -82,3 +82,7 @@ filled g i p w l e is =
 -- the horizon is at most 32
 pub horizon_small : (g : Game) → g.horizon ≤ 32
 horizon_small g = leb-true g.horizon 32 (and_parts (nat_le 1 g.horizon) (nat_le g.horizon 32) (game_fine (game_model g) (whole_parts g).0).horizon).1
+
+-- the grid is at least 1
+pub grid_some : (g : Game) → 0 < g.grid
+grid_some g = leb-true 1 g.grid (and_parts (nat_le 1 g.grid) (nat_le g.grid 4096) (game_fine (game_model g) (whole_parts g).0).grid).0

@@ -1,14 +1,14 @@
 -- The histories that are a step longer than another, as they are made.
-use Rattle.std.specs.Prelude.{ℕ, ◌+◌, ◌*◌, List, [], ◌∷◌, length, map, flat_map, Some, slice_index_or}
+use Rattle.std.specs.Prelude.{ℕ, ◌+◌, ◌*◌, List, [], ◌∷◌, length, map, flat_map, Some}
 use Rattle.std.specs.List.{range_with_len}
 use Rattle.lab_defs_text.specs.Games.{GameModel}
 use Rattle.lab_defs_text.specs.Texts.{place_at}
 use Rattle.lab_defs_game.specs.Histories as model
 use Rattle.lab_world.specs.declared.place.Outcome.{Outcome}
-use Rattle.lab_world.specs.declared.place.Row.{Row}
 use Rattle.lab_world.specs.declared.place.World.{World}
 use Rattle.lab_unfold.specs.declared.history.HistoryId.{HistoryId}
 use Rattle.lab_unfold.specs.declared.history.History.{History}
+use Rattle.lab_unfold.specs.Filled.{row_at}
 use Rattle.lab_unfold.specs.Values.{step_in}
 
 -- the histories of this depth behind a parent, by the outcomes of a row, the first of which has the number k
@@ -17,13 +17,9 @@ row_children parent depth a b k [] = []
 row_children parent depth a b k (o ∷ os) =
     record { parent = Some parent; step = Some (record { place1 = a; place2 = b; outcome = k }); world = o.next; depth = depth } ∷ row_children parent depth a b (k + 1) os
 
--- the outcomes of a row
-abbrev pub outcomes_at : World → ℕ → List Outcome
-outcomes_at w k = (slice_index_or w.rows k (record { total = 0; outcomes = [] })).outcomes
-
 -- those by the first seat's action a and n of the second's from b on
 abbrev pub second_children : (parent : HistoryId) (depth : ℕ) → World → (a b n : ℕ) → List History
-second_children parent depth w a b n = flat_map (λ b. row_children parent depth a b 0 (outcomes_at w (a * length w.two + b))) (range_with_len b n)
+second_children parent depth w a b n = flat_map (λ b. row_children parent depth a b 0 (row_at w (a * length w.two + b)).outcomes) (range_with_len b n)
 
 -- those by n of the first seat's actions from a on
 abbrev pub first_children : (parent : HistoryId) (depth : ℕ) → World → (a n : ℕ) → List History

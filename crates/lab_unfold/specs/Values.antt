@@ -17,6 +17,10 @@ use Rattle.lab_unfold.specs.declared.history.Scale.{Scale}
 abbrev pub step_in : model.Step → Step
 step_in s = record { place1 = s.action1; place2 = s.action2; outcome = s.outcome }
 
+-- and as the definitions have it
+abbrev pub step_model : Step → model.Step
+step_model s = record { action1 = s.place1; action2 = s.place2; outcome = s.outcome }
+
 -- the number of a history: how many stand before it
 abbrev pub history_number : GameModel → model.History → ℕ
 history_number g h = number_of history_cmp (model.histories g) h

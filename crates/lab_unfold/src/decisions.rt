@@ -32,7 +32,8 @@ pub fn most_decisions(
     seat: u32,
 ) -> Result<u32, AllocError>
     requires { items.now ≡ map (history_in (game_model game.now)) (histories (game_model game.now)) }
-    ensures { IfOk result (λ n. n ≡ sets.most_decisions (game_model game.now) seat) }
+    ensures value { IfOk result (λ n. n ≡ sets.most_decisions (game_model game.now) seat) }
+    ensures small { IfOk result (λ n. n ≤ 32) }
 {
     let mut counts = Vec::new(alloc);
     let mut most = 0;

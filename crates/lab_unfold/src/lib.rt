@@ -1,10 +1,12 @@
 //! The histories of a game: what each leads to, its chance, and what they all make of the size of numbers.
 #![tactic(auto)]
 
+mod chances;
 mod decisions;
 mod history;
 mod levels;
 mod payoffs;
+mod sizes;
 mod steps;
 mod units;
 mod worlds;

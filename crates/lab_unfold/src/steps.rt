@@ -9,10 +9,9 @@ ghost use Rattle.lab_unfold.specs.Children.{
   second_children,
   first_children,
   children_in,
-  outcomes_at,
 };
 
-use super::worlds::world_at;
+use super::worlds::{row_of, world_at};
 use crate::{History, HistoryId, Step};
 use lab_world::{Game, Outcome, World};
 
@@ -88,22 +87,10 @@ fn push_seconds(
         + length (second_children parent depth world.now place1 0 (length world.now.two)) }
 {
     for place2 in 0..world.two.len() {
-        let outcomes = outcomes_of(world, place1 as usize, place2);
-        push_row(items, parent, depth, place1, place2 as u32, outcomes)?;
+        let row = row_of(world, place1 as usize, place2);
+        push_row(items, parent, depth, place1, place2 as u32, row.outcomes.as_slice())?;
     }
     Ok(())
-}
-
-// The outcomes of two actions.
-fn outcomes_of(world: &World, place1: usize, place2: usize) -> &[Outcome]
-    requires filled { IsFilled world.now }
-    requires first { place1 < length world.now.one }
-    requires second { place2 < length world.now.two }
-    ensures row { result.now ≡ outcomes_at world.now (place1 * length world.now.two + place2) }
-    ensures some { 0 < length result.now }
-{
-    let row = &world.rows.as_slice()[place1 * world.two.len() + place2];
-    row.outcomes.as_slice()
 }
 
 // Adds those by each outcome of a row.
