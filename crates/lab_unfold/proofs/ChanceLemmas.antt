@@ -1,12 +1,11 @@
 -- The chance of a history from that of the one before its last step.
-use Rattle.std.proofs.Common.{◌≡◌, ℕ, zero, suc, ◌+◌, ◌-◌, ◌*◌, ◌/◌, ◌<◌, ◌≤◌, List, [], ◌∷◌, ◌++◌, length, true, Option, Some, None, refl, sym, ap, ◌∙◌, subst, arith}
+use Rattle.std.proofs.Common.{◌≡◌, ℕ, zero, suc, ◌+◌, ◌-◌, ◌*◌, ◌/◌, ◌<◌, ◌≤◌, [], ◌∷◌, ◌++◌, length, true, sym, ap, ◌∙◌, subst, arith}
 use Rattle.std.proofs.Math.Nat.{mul_assoc, mul_comm, mul-div_cancel}
 use Rattle.lab_math.proofs.Members.{In, in_get_or}
 use Rattle.lab_defs_text.specs.Games.{GameModel}
 use Rattle.lab_defs_text.specs.Texts.{place_at, game_ok}
 use Rattle.lab_defs_game.specs.Chance.{row_total, chance_unit, units_from, scale, chance_from, chance}
 use Rattle.lab_defs_game.specs.Histories as model
-use Rattle.lab_defs_game.specs.Laws.{IsStep}
 use Rattle.lab_defs_game.proofs.FormLemmas.{unit_whole}
 use Rattle.lab_defs_game.proofs.GameLemmas.{steps_inner, inner_has}
 use Rattle.lab_defs_game.proofs.Legal.{length_push, history_legal, step_from}

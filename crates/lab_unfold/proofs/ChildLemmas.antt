@@ -64,7 +64,7 @@ first_next parent depth w a n items all l e = ap (λ ks. items ++ flat_map (λ a
 -- ---- the same by definition
 
 -- a map over lists
-map_flat : {X Y Z : Type 0} (f : Y → Z) (h : X → List Y) (xs : List X) → map f (flat_map h xs) ≡ flat_map (λ x. map f (h x)) xs
+pub map_flat : {X Y Z : Type 0} (f : Y → Z) (h : X → List Y) (xs : List X) → map f (flat_map h xs) ≡ flat_map (λ x. map f (h x)) xs
 map_flat f h [] = refl
 map_flat f h (x ∷ xs) = map-append f (h x) (flat_map h xs) ∙ ap (λ t. map f (h x) ++ t) (map_flat f h xs)
 
@@ -168,8 +168,7 @@ no_children g parent n depth e = ap (map (child_in g parent n depth)) (no_steps 
 pub step_open : (actions : List Bytes) (w : World) (p : text.Place) (s : model.Step) → p ≡ world_place actions w → IsStep p s
     → (s.action1 < length w.one) × (s.action2 < length w.two) × (s.outcome < length (row_at w (s.action1 * length w.two + s.action2)).outcomes)
 step_open actions w p s e i =
-    let o = subst (λ q. IsStep q s) e i in
-    (
+    let o = subst (λ q. IsStep q s) e i in (
       omega (arith, o.0, two_length actions w.one),
       omega (arith, o.1, two_length actions w.two),
       omega (arith, o.2, ap length (row_of_is actions w s.action1 s.action2), length-map (row_at w (s.action1 * length w.two + s.action2)).outcomes outcome_model),

@@ -1,15 +1,13 @@
 -- Histories by their number of steps, and as the program has them.
 use Rattle.std.proofs.Common.{◌≡◌, ℕ, zero, suc, ◌+◌, ◌-◌, ◌<◌, ◌≤◌, List, [], ◌∷◌, ◌++◌, length, get_or, map, flat_map, take, drop, Option, Some, None, refl, sym, ap, ◌∙◌, subst, arith, append_assoc, length-append, ◌⊎◌, inl, inr}
 use Rattle.std.proofs.lemmas.List.{length-map, map-append, append-nil, get_or_append_left, get_or-take, get_or-map, drop_more, take-append-le, length-take}
-use Rattle.std.proofs.lemmas.Simd.{map-map}
 use Rattle.std.proofs.lemmas.Bool.{cases_lt}
 use Rattle.std.proofs.Math.Seq.{drop-append_seam}
-use Rattle.lab_math.proofs.Members.{In, in_get_or}
+use Rattle.lab_math.proofs.Members.{in_get_or}
 use Rattle.lab_defs_text.specs.Games.{GameModel}
-use Rattle.lab_defs_text.specs.Texts.{place_at}
 use Rattle.lab_defs_game.specs.Histories as model
 use Rattle.lab_defs_game.specs.Laws.{history_cmp, IsFew}
-use Rattle.lab_defs_game.specs.Unfolding.{UnfoldFault, standing, history_count, history_limit, first_too_many, unfold_fault, too_many_histories}
+use Rattle.lab_defs_game.specs.Unfolding.{standing, history_count, first_too_many, unfold_fault, too_many_histories}
 use Rattle.lab_defs_game.proofs.GameLemmas.{reached_push}
 use Rattle.lab_defs_game.proofs.HistoryCounts.{level, standing_is, with_longer_level, history_count_law, found_first}
 use Rattle.lab_defs_game.proofs.HistoryOrder.{history_total, history_order_law}
@@ -17,7 +15,6 @@ use Rattle.lab_defs_game.proofs.KeyLemmas.{Ascending, ascending_from_sorted}
 use Rattle.lab_defs_game.proofs.Legal.{length_push, history_legal}
 use Rattle.lab_defs_game.proofs.NumberLemmas.{number_at}
 use Rattle.lab_defs_game.proofs.UnfoldLaws.{too_many_law}
-use Rattle.lab_world.specs.declared.place.WorldId.{WorldId}
 use Rattle.lab_unfold.specs.declared.history.HistoryId.{HistoryId}
 use Rattle.lab_unfold.specs.declared.history.History.{History}
 use Rattle.lab_unfold.specs.declared.history.Step.{Step}
@@ -81,7 +78,7 @@ behind g t (suc n) =
     (r.0 ++ level g (suc (t + n)), ap (histories_to g) e ∙ with_longer_level g (t + n) ∙ ap (λ hs. hs ++ level g (suc (t + n))) r.1 ∙ append_assoc (histories_to g t) r.0 (level g (suc (t + n))))
 
 -- those of at most t steps come first
-prefix : (g : GameModel) (t : ℕ) → t ≤ g.horizon → (rest : List model.History) × (model.histories g ≡ histories_to g t ++ rest)
+pub prefix : (g : GameModel) (t : ℕ) → t ≤ g.horizon → (rest : List model.History) × (model.histories g ≡ histories_to g t ++ rest)
 prefix g t l =
     let r = behind g t (g.horizon - t) in
     let e : t + (g.horizon - t) ≡ g.horizon = omega (arith, l) in

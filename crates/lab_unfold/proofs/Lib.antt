@@ -6,3 +6,5 @@ pub mod PayoffLemmas
 pub mod UnitLemmas
 pub mod SizeLemmas
 pub mod ChanceLemmas
+pub mod BirthLemmas
+pub mod FaultLemmas

@@ -1,6 +1,6 @@
 -- The size of the numbers that a game makes.
-use Rattle.std.proofs.Common.{◌≡◌, ℕ, ◌+◌, ◌*◌, ◌/◌, ◌^◌, ◌<◌, ◌≤◌, Bool, true, false, Option, Some, None, cond, sym, ap, ◌∙◌, subst, arith}
-use Rattle.std.specs.Prelude.{max, nat_le, nat_lt, IfSome}
+use Rattle.std.proofs.Common.{◌≡◌, ℕ, ◌+◌, ◌*◌, ◌/◌, ◌^◌, ◌<◌, ◌≤◌, Option, Some, None, cond, sym, ap, ◌∙◌, subst, arith}
+use Rattle.std.specs.Prelude.{max, nat_le, IfSome}
 use Rattle.std.specs.Cmp.{both_ways}
 use Rattle.std.proofs.Math.Nat.{le-div_iff_mul-le, one-le-pow}
 use Rattle.std.proofs.lemmas.Bool.{leb-true, le-leb, lt-ltb}
@@ -8,7 +8,7 @@ use Rattle.std.proofs.lemmas.Nat.{mul-le}
 use Rattle.lab_defs_text.specs.Games.{GameModel}
 use Rattle.lab_defs_game.specs.Chance.{scale}
 use Rattle.lab_defs_game.specs.Sets.{most_decisions}
-use Rattle.lab_defs_game.specs.Unfolding.{UnfoldFault, size_passed, top_payoff, told_scale, size, size_fault}
+use Rattle.lab_defs_game.specs.Unfolding.{size_passed, top_payoff, told_scale, size, size_fault}
 use Rattle.lab_unfold.proofs.UnitLemmas.{told_is, told_past}
 
 -- a product is within a limit where its first factor is within the limit divided by the second

@@ -1,5 +1,5 @@
 -- Chance units, as they are made and as they are defined.
-use Rattle.std.proofs.Common.{◌≡◌, ℕ, zero, suc, ◌+◌, ◌-◌, ◌*◌, ◌/◌, ◌^◌, ◌<◌, ◌≤◌, List, [], ◌∷◌, ◌++◌, length, get_or, map, filter, flat_map, drop, Bool, true, false, cond, Option, Some, None, refl, sym, ap, ◌∙◌, subst, arith, ◌⊎◌, inl, inr}
+use Rattle.std.proofs.Common.{◌≡◌, ℕ, zero, suc, ◌+◌, ◌-◌, ◌*◌, ◌/◌, ◌^◌, ◌<◌, ◌≤◌, List, [], ◌∷◌, ◌++◌, length, get_or, map, filter, flat_map, drop, Bool, true, false, cond, Option, Some, None, refl, sym, ap, ◌∙◌, subst, arith, inl, inr}
 use Rattle.std.specs.Prelude.{◌&&◌, ◌==◌, nat_le, nat_lt}
 use Rattle.std.specs.List.{list_all}
 use Rattle.std.proofs.lemmas.Bool.{and_parts, ltb-true, eqb-true, leb-true, leb-false, le-leb, lt-leb}
@@ -8,7 +8,7 @@ use Rattle.std.proofs.lemmas.Nat.{mul-le}
 use Rattle.lab_math.proofs.DivisorLemmas.{gcd_is, quotient_pos}
 use Rattle.lab_math.proofs.Members.{In, in_map, in_from_map, in_get_or}
 use Rattle.lab_math.specs.Divisors.{gcd, lcm, lcm_of}
-use Rattle.lab_defs_text.specs.Games.{GameModel, Place, a_world, an_end, Outcome}
+use Rattle.lab_defs_text.specs.Games.{GameModel, Place, a_world, an_end}
 use Rattle.lab_defs_text.specs.Texts.{place_at, is_world, place_ok, row_ok, outcome_ok, game_ok}
 use Rattle.lab_defs_game.specs.Chance.{row_total, totals_at, chance_unit, units_from, scale}
 use Rattle.lab_defs_game.specs.Histories as model

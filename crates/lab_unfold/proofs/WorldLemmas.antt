@@ -9,7 +9,7 @@ use Rattle.std.proofs.lemmas.Bool.{and_parts, and_from, lt-ltb, ltb-true, leb-tr
 use Rattle.lab_math.proofs.ListTests.{item_at, image_at, all_from_each}
 use Rattle.lab_defs_text.specs.Games.{GameModel, Outcome}
 use Rattle.lab_defs_text.specs.Texts.{game_ok, place_ok, row_ok, outcome_ok}
-use Rattle.lab_defs_text.proofs.GameLemmas.{GameFine, game_fine, WorldFine, world_fine, names_fine, outcome_fine}
+use Rattle.lab_defs_text.proofs.GameLemmas.{game_fine, world_fine, names_fine, outcome_fine}
 use Rattle.lab_defs_game.specs.Chance.{row_total}
 use Rattle.lab_world.specs.declared.game.Game.{Game}
 use Rattle.lab_world.specs.declared.place.ActionId.{ActionId}
@@ -86,3 +86,7 @@ horizon_small g = leb-true g.horizon 32 (and_parts (nat_le 1 g.horizon) (nat_le 
 -- the grid is at least 1
 pub grid_some : (g : Game) → 0 < g.grid
 grid_some g = leb-true 1 g.grid (and_parts (nat_le 1 g.grid) (nat_le g.grid 4096) (game_fine (game_model g) (whole_parts g).0).grid).0
+
+-- the horizon is at least 1
+pub horizon_some : (g : Game) → 0 < g.horizon
+horizon_some g = leb-true 1 g.horizon (and_parts (nat_le 1 g.horizon) (nat_le g.horizon 32) (game_fine (game_model g) (whole_parts g).0).horizon).0

@@ -4,3 +4,4 @@ pub mod Children
 pub mod Levels
 pub mod Faults
 pub mod Units
+pub mod Births

@@ -7,7 +7,6 @@ use Rattle.lab_defs_game.specs.Histories as model
 use Rattle.lab_defs_game.specs.Sets.{most_decisions}
 use Rattle.lab_defs_game.specs.Chance as chances
 use Rattle.lab_defs_game.specs.Unfolding.{top_payoff}
-use Rattle.lab_world.specs.declared.place.WorldId.{WorldId}
 use Rattle.lab_unfold.specs.declared.history.HistoryId.{HistoryId}
 use Rattle.lab_unfold.specs.declared.history.Step.{Step}
 use Rattle.lab_unfold.specs.declared.history.History.{History}

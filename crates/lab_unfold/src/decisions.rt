@@ -71,6 +71,10 @@ fn decisions_at(game: &Game, id: WorldId, seat: u32) -> u32
     let Some(world) = world_at(game, id) else {
         return 0;
     };
-    let actions = if seat == 1 { world.one.len() } else { world.two.len() };
+    let actions = if seat == 1 {
+        world.one.len()
+    } else {
+        world.two.len()
+    };
     if actions >= 2 { 1 } else { 0 }
 }

@@ -46,9 +46,13 @@ pub struct Scale {
 #[derive(Clone, Copy, Debug, PartialEq, Eq)]
 pub enum UnfoldFault {
     /// There are more than 65,536 histories of at most `depth` steps, and not of fewer.
-    TooManyHistories { depth: u32 },
+    TooManyHistories {
+        depth: u32,
+    },
     /// The histories with as many steps as the horizon do not all end: the first that does not leads to this world.
-    HorizonPassed { history_world: WorldId },
+    HorizonPassed {
+        history_world: WorldId,
+    },
     /// Sums of earnings may pass 2^64 in whole units: the greatest payoff, the scale unless it is above 2^80, and the most decisions of each seat.
     SizePassed {
         top: u32,

@@ -2,13 +2,18 @@
 #![tactic(auto)]
 
 mod chances;
+mod children;
 mod decisions;
+mod histories;
 mod history;
 mod levels;
 mod payoffs;
 mod sizes;
 mod steps;
+mod unfolding;
 mod units;
 mod worlds;
 
+pub use histories::Histories;
 pub use history::{History, HistoryId, Scale, Step, UnfoldFault};
+pub use unfolding::unfold;

@@ -36,11 +36,7 @@ use std::alloc::Global;
 const SIZE_LIMIT: u128 = 1 << 64;
 
 /// The scale of a game, if the greatest sum of earnings in whole units is at most 2^64.
-pub fn scale_within(
-    alloc: Global,
-    game: &Game,
-    items: &[History],
-) -> Result<Scale, UnfoldFault>
+pub fn scale_within(alloc: Global, game: &Game, items: &[History]) -> Result<Scale, UnfoldFault>
     requires { items.now ≡ map (history_in (game_model game.now)) (histories (game_model game.now)) }
     ensures value { IfOk result (λ s. s ≡ scale_in (game_model game.now)) }
     ensures none { OnOk result (size_fault (game_model game.now) ≡ None) }
@@ -80,7 +76,11 @@ fn fitting(told: Option<u128>, top: u32, grid: u32, decisions: u32) -> Option<u1
     ensures none { IfNone result (IfSome told (λ k. 2 ^ 64 < max 1 top * k * grid ^ decisions)) }
 {
     let k = told?;
-    if fits(top, k, grid, decisions) { Some(k) } else { None }
+    if fits(top, k, grid, decisions) {
+        Some(k)
+    } else {
+        None
+    }
 }
 
 // Whether a size is within the limit.

@@ -88,7 +88,14 @@ fn push_seconds(
 {
     for place2 in 0..world.two.len() {
         let row = row_of(world, place1 as usize, place2);
-        push_row(items, parent, depth, place1, place2 as u32, row.outcomes.as_slice())?;
+        push_row(
+            items,
+            parent,
+            depth,
+            place1,
+            place2 as u32,
+            row.outcomes.as_slice(),
+        )?;
     }
     Ok(())
 }
@@ -112,7 +119,11 @@ fn push_row(
         if items.len() >= HISTORY_LIMIT {
             return Err(Stop::Full);
         }
-        let step = Step { place1, place2, outcome: outcome as u32 };
+        let step = Step {
+            place1,
+            place2,
+            outcome: outcome as u32,
+        };
         let history = History {
             parent: Some(parent),
             step: Some(step),

@@ -1,4 +1,4 @@
-use Rattle.std.proofs.Common.{◌≡◌, ◌<◌, ◌≤◌, ◌*◌, ◌/◌, ℕ, [], length, get_or, Option, None, Some, sym, ap, ◌∙◌, subst, arith}
+use Rattle.std.proofs.Common.{◌≡◌, ◌<◌, ◌*◌, ◌/◌, ℕ, length, get_or, Option, None, Some, sym, ap, ◌∙◌, subst, arith}
 use Rattle.lab_defs_text.specs.Games.{GameModel}
 use Rattle.lab_defs_text.specs.Texts.{place_at}
 use Rattle.lab_defs_game.specs.Chance.{row_total, chance}
@@ -8,7 +8,7 @@ use Rattle.lab_defs_game.proofs.Legal.{step_from}
 use Rattle.lab_world.specs.Games.{game_model}
 use Rattle.lab_unfold.specs.declared.history.History.{History}
 use Rattle.lab_unfold.specs.declared.history.Step.{Step}
-use Rattle.lab_unfold.specs.Values.{step_in, step_model}
+use Rattle.lab_unfold.specs.Values.{step_model}
 use Rattle.lab_unfold.proofs.WorldLemmas.{whole_parts}
 use Rattle.lab_unfold.proofs.ParentLemmas.{history_at, read_is, read_behind, read_first, read_step, step_same, all_length, told_at}
 use Rattle.lab_unfold.proofs.ChanceLemmas.{chance_behind, chance_first}

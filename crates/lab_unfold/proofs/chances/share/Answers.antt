@@ -1,4 +1,4 @@
-use Rattle.std.proofs.Common.{◌≡◌, ◌<◌, ◌*◌, ◌/◌, ◌≤◌, length, get_or, ℕ, List, sym, ap, ◌∙◌, subst, arith}
+use Rattle.std.proofs.Common.{◌<◌, ◌*◌, ◌/◌, ◌≤◌, length, get_or, List, sym, ap, ◌∙◌, subst}
 use Rattle.lab_defs_text.specs.Texts.{place_at}
 use Rattle.lab_defs_game.specs.Histories.{outcome_of}
 use Rattle.lab_world.specs.declared.place.Outcome.{Outcome}

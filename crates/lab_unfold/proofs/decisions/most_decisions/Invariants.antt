@@ -1,4 +1,4 @@
-use Rattle.std.proofs.Common.{◌≡◌, ◌≤◌, map, length, take, drop}
+use Rattle.std.proofs.Common.{◌≡◌, map, take, drop}
 use Rattle.std.specs.Prelude.{max}
 use Rattle.lab_math.specs.Sums.{greatest_over}
 use Rattle.lab_defs_game.specs.Histories.{histories}

@@ -1,7 +1,7 @@
-use Rattle.std.proofs.Common.{◌≡◌, ◌<◌, ◌≤◌, ◌+◌, ◌^◌, ℕ, [], length, get_or, cond, sym, ap, ◌∙◌, subst, arith, rules}
+use Rattle.std.proofs.Common.{◌<◌, ◌+◌, ◌^◌, length, get_or, cond, sym, ap, ◌∙◌, arith, rules}
 use Rattle.std.specs.Prelude.{nat_le}
 use Rattle.lab_defs_text.specs.Texts.{place_at}
-use Rattle.lab_defs_game.specs.Histories.{actions_at, place_of, reached}
+use Rattle.lab_defs_game.specs.Histories.{actions_at}
 use Rattle.lab_defs_game.specs.Sets.{decisions_from}
 use Rattle.lab_world.specs.Games.{game_model}
 use Rattle.lab_unfold.specs.declared.history.History.{History}

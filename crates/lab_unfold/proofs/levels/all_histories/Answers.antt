@@ -1,4 +1,4 @@
-use Rattle.std.proofs.Common.{◌≤◌, ◌<◌, ◌≡◌, ◌+◌, ◌∙◌, ℕ, sym, subst, arith, ap, length}
+use Rattle.std.proofs.Common.{◌≤◌, ◌≡◌, ◌+◌, sym, subst, arith, length}
 use Rattle.lab_world.specs.Games.{game_model}
 use Rattle.lab_unfold.specs.Levels.{IsFirstOf}
 use Rattle.lab_unfold.proofs.LevelLemmas.{kept_count, first_behind, few_more, few_none}
@@ -11,7 +11,7 @@ loop-depth-preserved c =
       items = c.in_ok-add_level.ensures.ok;
       last = subst (IsFirstOf (game_model c.args.game.now) (c.loop-depth.depth + 1)) long (first_behind (game_model c.args.game.now) c.loop-depth.depth c.loop-depth.items.items c.loop-depth.invariant.items);
       few = few_more (game_model c.args.game.now) c.loop-depth.depth c.loop-depth.invariant.few
-      (subst (λ n. n ≤ 65536) (kept_count (game_model c.args.game.now) (c.loop-depth.depth + 1) c.add_level.new.items.items c.in_ok-add_level.ensures.ok) c.in_ok-add_level.ensures.few);
+          (subst (λ n. n ≤ 65536) (kept_count (game_model c.args.game.now) (c.loop-depth.depth + 1) c.add_level.new.items.items c.in_ok-add_level.ensures.ok) c.in_ok-add_level.ensures.few);
     }
 
 pub returns-clause-few : goal.returns-clause-few

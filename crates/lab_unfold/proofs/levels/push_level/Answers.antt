@@ -1,4 +1,4 @@
-use Rattle.std.proofs.Common.{◌≡◌, ◌<◌, ◌≤◌, ◌+◌, ◌++◌, [], length, get_or, map, flat_map, take, drop, sym, ap, ◌∙◌, subst, arith, rules}
+use Rattle.std.proofs.Common.{◌<◌, ◌≤◌, ◌+◌, ◌++◌, [], length, map, flat_map, drop, sym, ap, ◌∙◌, subst, arith, rules}
 use Rattle.std.proofs.lemmas.List.{length-map}
 use Rattle.std.proofs.Math.Seq.{take-length}
 use Rattle.lab_defs_game.specs.Histories.{longer}
@@ -6,7 +6,6 @@ use Rattle.lab_world.specs.Games.{game_model}
 use Rattle.lab_unfold.specs.declared.history.History.{History}
 use Rattle.lab_unfold.specs.Values.{history_in}
 use Rattle.lab_unfold.specs.Levels.{histories_to}
-use Rattle.lab_unfold.specs.Children.{children_in}
 use Rattle.lab_unfold.proofs.ChildLemmas.{moved, passed}
 use Rattle.lab_unfold.proofs.WorldLemmas.{horizon_small}
 use Rattle.lab_unfold.proofs.LevelLemmas.{level_start, level_next, kept_read, kept_more, kept_short, kept_below, depth_small}
@@ -15,8 +14,8 @@ use Rattle.lab_unfold.proofs.levels.push_level.Goals as goal
 pub loop-number-init : goal.loop-number-init
 loop-number-init c = record {
   so_far =
-    ap (λ hs. hs ++ map (history_in (game_model c.args.game.now)) (flat_map (longer (game_model c.args.game.now)) (drop c.args.first (histories_to (game_model c.args.game.now) c.args.depth)))) c.requires.items
-    ∙ level_start (game_model c.args.game.now) c.args.depth c.args.first c.requires.first;
+      ap (λ hs. hs ++ map (history_in (game_model c.args.game.now)) (flat_map (longer (game_model c.args.game.now)) (drop c.args.first (histories_to (game_model c.args.game.now) c.args.depth)))) c.requires.items
+      ∙ level_start (game_model c.args.game.now) c.args.depth c.args.first c.requires.first;
   kept = take-length c.args.items.now.items;
   few = c.requires.few;
 }
@@ -50,6 +49,6 @@ loop-number-preserved c =
     record {
       so_far = moved c.loop-number.items.items _ _ c.push_children.new.items.items _ next c.in_ok-push_children.ensures.ok;
       kept = kept_more c.loop-number.items.items _ c.push_children.new.items.items c.args.items.now.items c.loop-number.invariant.kept
-      (kept_short c.loop-number.items.items c.args.items.now.items c.loop-number.invariant.kept) c.in_ok-push_children.ensures.ok;
+          (kept_short c.loop-number.items.items c.args.items.now.items c.loop-number.invariant.kept) c.in_ok-push_children.ensures.ok;
       few = c.in_ok-push_children.ensures.few;
     }

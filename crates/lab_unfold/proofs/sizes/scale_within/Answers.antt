@@ -1,4 +1,3 @@
-use Rattle.std.proofs.Common.{◌<◌, ◌≤◌, ◌∙◌, ap}
 use Rattle.lab_world.specs.Games.{game_model}
 use Rattle.lab_defs_game.specs.Chance.{scale}
 use Rattle.lab_unfold.proofs.WorldLemmas.{whole_parts, grid_some}

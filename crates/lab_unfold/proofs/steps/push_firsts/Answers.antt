@@ -1,4 +1,4 @@
-use Rattle.std.proofs.Common.{◌+◌, ◌-◌, length, ap, arith, rules, length-append}
+use Rattle.std.proofs.Common.{◌+◌, ◌-◌, length, arith, rules}
 use Rattle.lab_unfold.specs.Children.{second_children, first_children}
 use Rattle.lab_unfold.proofs.ChildLemmas.{moved, passed, first_next}
 use Rattle.lab_unfold.proofs.steps.push_firsts.Goals as goal
@@ -16,9 +16,9 @@ pub loop-place1-preserved : goal.loop-place1-preserved
 loop-place1-preserved c =
     record {
       so_far = moved c.loop-place1.items.items (second_children c.args.parent c.args.depth c.args.world.now c.loop-place1.place1 0 (length c.args.world.now.two)) _ c.push_seconds.new.items.items _
-      (first_next c.args.parent c.args.depth c.args.world.now c.loop-place1.place1 (length c.args.world.now.one) c.loop-place1.items.items _
-      (omega (arith, c.loop-place1-test.true)) c.loop-place1.invariant.so_far)
-      c.in_ok-push_seconds.ensures.ok;
+          (first_next c.args.parent c.args.depth c.args.world.now c.loop-place1.place1 (length c.args.world.now.one) c.loop-place1.items.items _
+          (omega (arith, c.loop-place1-test.true)) c.loop-place1.invariant.so_far)
+          c.in_ok-push_seconds.ensures.ok;
       few = c.in_ok-push_seconds.ensures.few;
       count = omega (arith, c.in_ok-push_seconds.ensures.more, c.loop-place1.invariant.count);
     }

@@ -1,4 +1,4 @@
-use Rattle.std.proofs.Common.{◌<◌, ◌≤◌, ◌^◌, length, sym, ◌∙◌, subst, arith}
+use Rattle.std.proofs.Common.{◌<◌, ◌≤◌, ◌^◌, sym, ◌∙◌, subst, arith}
 use Rattle.lab_unfold.proofs.UnitLemmas.{totals_next, totals_none, totals_end, lcm_some, row_some}
 use Rattle.lab_unfold.proofs.units.totals_with.Goals as goal
 
