@@ -8,3 +8,4 @@ pub mod SizeLemmas
 pub mod ChanceLemmas
 pub mod BirthLemmas
 pub mod FaultLemmas
+pub mod StepLemmas

@@ -1,5 +1,5 @@
 -- What a game unfolds to.
-use Rattle.std.specs.Prelude.{ℕ, List, [], ◌∷◌, length, map, Option, Some, None}
+use Rattle.std.specs.Prelude.{◌≡◌, ◌<◌, ℕ, List, [], ◌∷◌, ◌++◌, length, map, slice_index_or, Option, Some, None}
 use Rattle.lab_defs_text.specs.Games.{GameModel}
 use Rattle.lab_defs_game.specs.Keys.{number_of}
 use Rattle.lab_defs_game.specs.Laws.{history_cmp}
@@ -49,11 +49,31 @@ history_in g h = record { parent = parent_in g h; step = last_step h; world = re
 abbrev pub scale_in : GameModel → Scale
 scale_in g = record { k = chances.scale g; most1 = most_decisions g 1; most2 = most_decisions g 2; top = top_payoff g; grid = g.grid }
 
--- the histories of a game in order, the chance of each with the units of all later steps, and the scale
+-- the steps of a history, `known` being those of the histories before it
+abbrev pub steps_behind : List model.History → Option HistoryId → Option Step → model.History
+steps_behind known (Some p) (Some s) = slice_index_or known p.0 [] ++ step_model s ∷ []
+steps_behind known p s = []
+
+-- the steps of histories by their parents and last steps, `known` being those of the histories before them
+abbrev pub all_steps : List model.History → List History → List model.History
+all_steps known [] = known
+all_steps known (h ∷ hs) = all_steps (known ++ steps_behind known h.parent h.step ∷ []) hs
+
+-- the histories of a game in order as the lists of their steps, and as the program has them, the chance of each with the units of all later steps, and the scale
 pub record Unfolded : Type 0 where
+  pub histories : List model.History
   pub items : List History
   pub chances : List ℕ
   pub scale : Scale
 
 abbrev pub unfolded : GameModel → Unfolded
-unfolded g = record { items = map (history_in g) (model.histories g); chances = map (chances.chance g) (model.histories g); scale = scale_in g }
+unfolded g = record {
+  histories = model.histories g;
+  items = map (history_in g) (model.histories g);
+  chances = map (chances.chance g) (model.histories g);
+  scale = scale_in g;
+}
+
+-- the history with the number k is longer by this step than the one with the number n
+abbrev pub IsLonger : List model.History → ℕ → Step → ℕ → Type 0
+IsLonger hs n s k = (k < length hs) × (slice_index_or hs k [] ≡ slice_index_or hs n [] ++ step_model s ∷ [])

@@ -1,8 +1,9 @@
 //! The histories of a game, with their chances and the scale.
 
-ghost use Rattle.std.specs.Prelude.{◌≡◌, ◌<◌, ◌≤◌, ℕ, length, slice_get, slice_index, Some, IfSome, IfNone};
+ghost use Rattle.std.specs.Prelude.{◌≡◌, ◌<◌, ◌≤◌, ℕ, [], length, slice_get, slice_index, Some, IfSome, IfNone};
 ghost use Rattle.std.specs.List.Sorted.{IsStrictlySortedBy};
-ghost use Rattle.lab_unfold.specs.Births.{birth_cmp, IsChild};
+ghost use Rattle.lab_unfold.specs.Births.{birth_cmp, TellLonger};
+ghost use Rattle.lab_unfold.specs.Values.{all_steps, IsLonger};
 
 use super::children::child_among;
 use crate::{History, HistoryId, Scale, Step};
@@ -17,16 +18,16 @@ pub struct Histories {
 }
 
 impl Model for Histories {
-    ghost use Rattle.std.specs.Prelude.{◌≡◌, ◌≤◌, length};
+    ghost use Rattle.std.specs.Prelude.{◌≡◌, ◌≤◌, [], length};
     ghost use Rattle.std.specs.List.Sorted.{IsStrictlySortedBy};
-    ghost use Rattle.lab_unfold.specs.Births.{birth_cmp};
-    ghost use Rattle.lab_unfold.specs.Values.{Unfolded};
+    ghost use Rattle.lab_unfold.specs.Births.{birth_cmp, TellLonger};
+    ghost use Rattle.lab_unfold.specs.Values.{Unfolded, all_steps};
 
     ghost Value = { Unfolded };
 
-    ghost view = { λ h. record { items = h.items.items; chances = h.chances.items; scale = h.scale } };
+    ghost view = { λ h. record { histories = all_steps [] h.items.items; items = h.items.items; chances = h.chances.items; scale = h.scale } };
 
-    ghost invariant = { λ h. (length h.items.items ≤ 65536) × (length h.chances.items ≡ length h.items.items) × IsStrictlySortedBy birth_cmp h.items.items };
+    ghost invariant = { λ h. (length h.items.items ≤ 65536) × (length h.chances.items ≡ length h.items.items) × IsStrictlySortedBy birth_cmp h.items.items × TellLonger h.items.items };
 }
 
 impl Histories {
@@ -35,7 +36,8 @@ impl Histories {
         requires few { length items.items ≤ 65536 }
         requires chances { length chances.items ≡ length items.items }
         requires order { IsStrictlySortedBy birth_cmp items.items }
-        ensures { result ≡ record { items = items.items; chances = chances.items; scale = scale } }
+        requires steps { TellLonger items.items }
+        ensures { result ≡ record { histories = all_steps [] items.items; items = items.items; chances = chances.items; scale = scale } }
     {
         Histories {
             items,
@@ -44,7 +46,7 @@ impl Histories {
         }
     }
 
-    /// How many histories there are, at least 1 and at most 65,536.
+    /// How many histories there are, at most 65,536.
     pub fn count(&self) -> u32
         ensures count { result ≡ length self.now.items }
         ensures few { result ≤ 65536 }
@@ -77,8 +79,9 @@ impl Histories {
 
     /// The history that is longer by this step, if there is one.
     pub fn child(&self, id: HistoryId, step: &Step) -> Option<HistoryId>
-        ensures some { IfSome result (λ k. IsChild self.now.items id step.now k.0) }
-        ensures none { IfNone result ((k : ℕ) → IsChild self.now.items id step.now k → ⊥) }
+        requires { id.0 < length self.now.items }
+        ensures some { IfSome result (λ k. IsLonger self.now.histories id.0 step.now k.0) }
+        ensures none { IfNone result ((k : ℕ) → IsLonger self.now.histories id.0 step.now k → ⊥) }
     {
         child_among(self.items.as_slice(), id, *step)
     }

@@ -4,6 +4,7 @@ use Rattle.lab_unfold.specs.Faults.{IsFault}
 use Rattle.lab_unfold.proofs.WorldLemmas.{horizon_some}
 use Rattle.lab_unfold.proofs.BirthLemmas.{births_sorted}
 use Rattle.lab_unfold.proofs.FaultLemmas.{horizon_found, size_decides, size_reason, handed_on}
+use Rattle.lab_unfold.proofs.StepLemmas.{steps_tell, value_is}
 use Rattle.lab_unfold.proofs.unfolding.unfold.Goals as goal
 
 pub returns-in-Some-clause-fault : goal.returns-in-Some-clause-fault
@@ -25,3 +26,11 @@ returns-clause-none c =
     size_decides (game_model c.args.game.now) c.deref.result.now c.in_ok-items.field-0.last (c.deref.ensures.value ∙ c.in_ok-items.ensures.items) c.in_ok-items.ensures.last
     c.in_ok-items.ensures.none c.in_default.ensures
     ∙ c.in_ok-scale.ensures.none
+
+pub new-requires-clause-steps : goal.new-requires-clause-steps
+new-requires-clause-steps c = steps_tell (game_model c.args.game.now) c.in_ok-items.field-0.items.items c.in_ok-items.ensures.items
+
+pub returns-clause-value : goal.returns-clause-value
+returns-clause-value c =
+    c.new.ensures
+    ∙ value_is (game_model c.args.game.now) c.in_ok-items.field-0.items.items c.in-Ok.chances.items c.in_ok-scale.scale c.in_ok-items.ensures.items c.in-Ok.ensures c.in_ok-scale.ensures.value
