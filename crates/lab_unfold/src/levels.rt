@@ -90,7 +90,7 @@ fn add_level(
     }
 }
 
-// Likewise, with another error.
+// Likewise; `Full` where there would be too many.
 fn push_level(items: &mut Vec<History>, game: &Game, depth: u32, first: usize) -> Result<(), Stop>
     requires items { items.old.items
         ≡ map (history_in (game_model game.now)) (histories_to (game_model game.now) depth) }

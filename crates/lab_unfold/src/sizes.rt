@@ -32,7 +32,7 @@ use lab_units::pow_within;
 use lab_world::Game;
 use std::alloc::Global;
 
-/// The greatest size: 2^64.
+// The greatest size: 2^64.
 const SIZE_LIMIT: u128 = 1 << 64;
 
 /// The scale of a game, if the greatest sum of earnings in whole units is at most 2^64.

@@ -1,7 +1,6 @@
 //! The histories that are one step longer than another.
 
 ghost use Rattle.std.specs.Prelude.{◌≡◌, ◌<◌, ◌≤◌, ◌+◌, ◌*◌, ◌++◌, length, OnOk, Err};
-ghost use Rattle.lab_defs_game.specs.Unfolding.{history_limit};
 ghost use Rattle.lab_world.specs.Games.{game_model};
 ghost use Rattle.lab_unfold.specs.Filled.{IsFilled};
 ghost use Rattle.lab_unfold.specs.Children.{
@@ -15,8 +14,8 @@ use super::worlds::{row_of, world_at};
 use crate::{History, HistoryId, Step};
 use lab_world::{Game, Outcome, World};
 
-/// The most histories that are kept.
-pub const HISTORY_LIMIT: usize = 65_536;
+// The most histories that are kept.
+const HISTORY_LIMIT: usize = 65_536;
 
 /// Why no more histories are kept.
 #[derive(Clone, Copy, Debug, PartialEq, Eq)]

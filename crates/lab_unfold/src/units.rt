@@ -16,7 +16,7 @@ use crate::History;
 use lab_units::lcm_within;
 use lab_world::{Game, Row};
 
-/// The greatest scale that is told: 2^80.
+// The greatest scale that is told: 2^80.
 const SCALE_LIMIT: u128 = 1 << 80;
 
 /// The scale of a game's chances: the product of the chance units of all steps.
