@@ -80,6 +80,11 @@ pub longer_some : (items : List History) (id : HistoryId) (s : Step) (r : Option
 longer_some items id s None tell l c = tt
 longer_some items id s (Some k) tell l c = (tell id s k.0 l).0 c
 
+-- and one of the histories
+pub child_below : (items : List History) (id : HistoryId) (s : Step) (r : Option HistoryId) → IfSome r (λ k. IsChild items id s k.0) → IfSome r (λ k. k.0 < length items)
+child_below items id s None c = tt
+child_below items id s (Some k) c = slice_get_within items k.0 c.0 c.1
+
 -- where no child is, no history is longer by the step
 pub longer_none : (items : List History) (id : HistoryId) (s : Step) (r : Option HistoryId) → TellLonger items → id.0 < length items → IfNone r ((k : ℕ) → IsChild items id s k → ⊥)
     → IfNone r ((k : ℕ) → IsLonger (all_steps [] items) id.0 s k → ⊥)

@@ -81,6 +81,7 @@ impl Histories {
     pub fn child(&self, id: HistoryId, step: &Step) -> Option<HistoryId>
         requires { id.0 < length self.now.items }
         ensures some { IfSome result (λ k. IsLonger self.now.histories id.0 step.now k.0) }
+        ensures below { IfSome result (λ k. k.0 < length self.now.items) }
         ensures none { IfNone result ((k : ℕ) → IsLonger self.now.histories id.0 step.now k → ⊥) }
     {
         child_among(self.items.as_slice(), id, *step)
