@@ -1,13 +1,10 @@
-pub mod ActionNameLemmas
-pub mod BuiltGames
-pub mod FollowedTexts
-pub mod LineLengths
-pub mod NumberWords
+pub mod Collecting
+pub mod LineCuts
 pub mod OneStepHistories
 pub mod OneStepLemmas
-pub mod PlacedLines
 pub mod PlainGames
+pub mod PlainLemmas
+pub mod RefusalLemmas
 pub mod RowSums
-pub mod RunLemmas
 pub mod WeightLemmas
 pub mod WriteLemmas

@@ -8,5 +8,6 @@ mod read;
 mod write;
 
 pub use fault::TextFault;
+pub use lines::push_line;
 pub use read::read_game;
 pub use write::{NoMemory, write_game};
