@@ -71,7 +71,7 @@ cut_short F old left new ahead rest text n s c t e h =
     cuts_off F old new (text ++ []) true (refused n (codes "CutShort") []) s h (Takes-all all) (λ _. e.at_end) (c.cuts true [] ∙ ends_short n text)
 
 -- all that was taken, where the reader stopped inside a line
-stopped_bytes : (old left new : Option Bytes) (ahead text more : Bytes) → (t : Takes [] old ahead left text) → Consumes left new more → Consumes old new (text ++ (ahead ++ more))
+pub stopped_bytes : (old left new : Option Bytes) (ahead text more : Bytes) → (t : Takes [] old ahead left text) → Consumes left new more → Consumes old new (text ++ (ahead ++ more))
 stopped_bytes old left new ahead text more t c =
     let same : t.taken ++ more ≡ text ++ (ahead ++ more) = ap (λ x. x ++ more) t.split ∙ append_assoc text ahead more in
     subst (Consumes old new) same (Consumes-append old left new t.taken more t.consumed c)

@@ -1,7 +1,9 @@
 pub mod Collecting
+pub mod FoundLemmas
 pub mod LineCuts
 pub mod OneStepHistories
 pub mod OneStepLemmas
+pub mod PieceLemmas
 pub mod PlainGames
 pub mod PlainLemmas
 pub mod RefusalLemmas

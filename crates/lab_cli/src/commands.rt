@@ -6,6 +6,7 @@ ghost use Rattle.lab_defs_text.specs.Lines.{joined};
 ghost use Rattle.lab_defs_report.specs.Plain.{is_plain};
 ghost use Rattle.lab_defs_report.specs.States.{uniform_reply};
 ghost use Rattle.lab_defs_report.specs.Answers.{following};
+ghost use Rattle.lab_defs_report.specs.Sessions.{last_answer};
 ghost use Rattle.lab_defs_report.specs.Cuts.{line_limit, commands_limit};
 ghost use Rattle.lab_defs_report.specs.Reports.{commands_answer, replies_from, reply_at, reply_of};
 ghost use Rattle.lab_world.specs.Games.{game_model};
@@ -16,7 +17,7 @@ ghost use Rattle.lab_defs_text.specs.Games.{GameModel};
 ghost use Rattle.lab_defs_report.specs.Refusals.{Refusal};
 
 use crate::expectation::expect_uniform;
-use crate::pieces::first_at;
+use crate::pieces::cut;
 use crate::refusals::{refused, refused_lex, refused_word};
 use crate::stop::Stop;
 use lab_commands::{Command, CommandFault, command_at};
@@ -50,23 +51,35 @@ fn replies(alloc: Global, done: u32, uniform: &[u8], behind: &[u8]) -> Result<Ve
     let mut out = Vec::new(alloc);
     let mut rest = behind;
     let mut number = 1;
-    while let Some(at) = first_at(rest, b'\n') {
-        if let Err(stop) = check_command(alloc, done + number, number, &rest[..at]) {
-            return Err(after(out, stop));
+    loop {
+        let (line, after) = cut(rest, b'\n');
+        match after {
+            None => return last(alloc, out, done + number, line),
+            Some(next) => {
+                if let Err(stop) = check_command(alloc, done + number, number, line) {
+                    return Err(ended(out, stop));
+                }
+                out.extend_from_slice(uniform)?;
+                rest = next;
+                number += 1;
+            }
         }
-        out.extend_from_slice(uniform)?;
-        rest = &rest[at + 1..];
-        number += 1;
     }
-    if rest.is_empty() {
-        Ok(out)
+}
+
+// What was written, where the input ends with this line, which no line feed ends.
+fn last(alloc: Global, written: Vec<u8>, number: u32, line: &[u8]) -> Result<Vec<u8>, Stop>
+    ensures { Says ⊥ (λ a. a ≡ following written.items (last_answer true number line.now)) result }
+{
+    if line.is_empty() {
+        Ok(written)
     } else {
-        Err(after(out, refused(alloc, done + number, b"NoNewline", &[])))
+        Err(ended(written, refused(alloc, number, b"NoNewline", &[])))
     }
 }
 
 // A refusal behind what was written before it.
-fn after(written: Vec<u8>, stop: Stop) -> Stop
+fn ended(written: Vec<u8>, stop: Stop) -> Stop
     ensures { (r : Refusal) → IsRefusal r stop → Ends written.items r result }
 {
     match stop {
@@ -123,14 +136,15 @@ fn refused_line(alloc: Global, line: u32, fault: CommandFault) -> Stop
 fn has_long_line(behind: &[u8]) -> bool
     ensures { result ≡ list_any (λ l. nat_lt line_limit (length l)) (lines behind.now) }
 {
-    let mut rest = behind;
-    while let Some(at) = first_at(rest, b'\n') {
-        if at > LINE_LIMIT {
+    let mut rest = Some(behind);
+    while let Some(bytes) = rest {
+        let (line, after) = cut(bytes, b'\n');
+        if line.len() > LINE_LIMIT {
             return true;
         }
-        rest = &rest[at + 1..];
+        rest = after;
     }
-    rest.len() > LINE_LIMIT
+    false
 }
 
 // The reply to `expect uniform`.

@@ -1,9 +1,20 @@
 //! Pieces of bytes between separators.
-ghost use Rattle.std.specs.Prelude.{◌≡◌, ◌==◌, [], position, slice_index_or};
+ghost use Rattle.std.specs.Prelude.{◌≡◌, ◌<◌, ◌∷◌, ◌==◌, [], IfSome, length, position, slice_index_or, drop};
 ghost use Rattle.std.specs.List.{slice_split};
+ghost use Rattle.std.specs.Option.{option_map_or};
 
-/// The place of the first separator, if there is one.
-pub fn first_at(bytes: &[u8], separator: u8) -> Option<usize>
+/// The first piece, and what follows its separator, if it has one.
+pub fn cut(bytes: &[u8], separator: u8) -> (&[u8], Option<&[u8]>)
+    ensures pieces { slice_split (λ c. c == separator) bytes.now ≡ result.0.now ∷ option_map_or (λ r. slice_split (λ c. c == separator) r.now) result.1 [] }
+    ensures less { IfSome result.1 (λ r. length r.now < length bytes.now) }
+{
+    match first_at(bytes, separator) {
+        None => (bytes, None),
+        Some(at) => (&bytes[..at], Some(&bytes[at + 1..])),
+    }
+}
+
+fn first_at(bytes: &[u8], separator: u8) -> Option<usize>
     ensures { result ≡ position (λ c. c == separator) bytes.now }
 {
     bytes.iter().position(|c| *c == separator)
@@ -13,15 +24,29 @@ pub fn first_at(bytes: &[u8], separator: u8) -> Option<usize>
 pub fn piece(bytes: &[u8], separator: u8, number: usize) -> &[u8]
     ensures { result.now ≡ slice_index_or (slice_split (λ c. c == separator) bytes.now) number [] }
 {
-    let mut rest = bytes;
+    let mut rest = Some(bytes);
     for _ in 0..number {
-        let Some(at) = first_at(rest, separator) else {
-            return b"";
-        };
-        rest = &rest[at + 1..];
+        rest = behind(rest, separator);
     }
-    match first_at(rest, separator) {
-        Some(at) => &rest[..at],
-        None => rest,
+    front(rest, separator)
+}
+
+// What follows the first piece, where there is one.
+fn behind(rest: Option<&[u8]>, separator: u8) -> Option<&[u8]>
+    ensures { option_map_or (λ r. slice_split (λ c. c == separator) r.now) result [] ≡ drop 1 (option_map_or (λ r. slice_split (λ c. c == separator) r.now) rest.entry []) }
+{
+    match rest {
+        Some(bytes) => cut(bytes, separator).1,
+        None => None,
+    }
+}
+
+// The first piece, empty where there is none.
+fn front(rest: Option<&[u8]>, separator: u8) -> &[u8]
+    ensures { result.now ≡ slice_index_or (option_map_or (λ r. slice_split (λ c. c == separator) r.now) rest.entry []) 0 [] }
+{
+    match rest {
+        Some(bytes) => cut(bytes, separator).0,
+        None => b"",
     }
 }

@@ -14,7 +14,7 @@ use crate::print::print;
 use crate::session::session;
 use crate::status::Status;
 use crate::stop::Stop;
-use lab_io::{Failed, Sink, Source, write_whole};
+use lab_io::{Failed, LineReader, Sink, Source, write_whole};
 use std::alloc::Global;
 
 // What is written where the words name no mode.
@@ -53,9 +53,12 @@ fn answer<S: Source>(alloc: Global, mode: Mode, source: &mut S) -> Result<Vec<u8
         (Found (Some (mode_model mode)) (S.left source.old) (S.left source.new)) result }
     ensures later { S.faults source.old ≤ S.faults source.new }
 {
+    let Ok(mut reader) = LineReader::start(alloc) else {
+        return Err(Stop::Memory);
+    };
     match mode {
-        Mode::Session => session(alloc, source),
-        Mode::Print => print(alloc, source),
+        Mode::Session => session(alloc, &mut reader, source),
+        Mode::Print => print(alloc, &mut reader, source),
     }
 }
 

@@ -7,12 +7,12 @@ use Rattle.lab_defs_report.specs.Answers.{following}
 use Rattle.lab_defs_report.specs.Reports.{replies_from}
 use Rattle.lab_cli.proofs.commands.replies.Given as goal
 
-abbrev pub invariant-loop-at : goal.invariant-loop-at
-invariant-loop-at l = record {
+abbrev pub invariant-loop-out : goal.invariant-loop-out
+invariant-loop-out l = record {
   few : l.number + length l.rest ≤ length l.behind + 1;
   so_far : (g : GameModel) → l.uniform ≡ joined (uniform_reply g) ++ 10 ∷ []
       → replies_from l.done 1 g (lines l.behind) ≡ following l.out.items (replies_from l.done l.number g (lines l.rest));
 }
 
-abbrev pub decreases-loop-at : goal.decreases-loop-at
-decreases-loop-at l = length l.rest
+abbrev pub decreases-loop-out : goal.decreases-loop-out
+decreases-loop-out l = length l.rest
