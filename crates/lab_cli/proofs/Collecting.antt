@@ -1,5 +1,5 @@
 -- The lines of a game that are collected from a source, and what stops them.
-use Rattle.std.proofs.Common.{◌≡◌, ℕ, ◌+◌, ◌-◌, ◌≤◌, ◌<◌, Bool, true, false, List, [], ◌∷◌, ◌++◌, length, Option, Some, None, refl, sym, ap, ◌∙◌, subst, arith, length-append, append_assoc, append-nil}
+use Rattle.std.proofs.Common.{◌≡◌, ℕ, ◌+◌, ◌-◌, ◌≤◌, ◌<◌, Bool, true, false, List, [], ◌∷◌, ◌++◌, length, Option, Some, None, Result, Ok, Err, IfOk, IfErr, refl, sym, ap, ◌∙◌, subst, arith, length-append, append_assoc, append-nil}
 use Rattle.std.specs.Prelude.{IsTrue, if◌then◌else◌}
 use Rattle.std.specs.Str.{bytes_eq}
 use Rattle.std.specs.Io.KnownBytes.{Consumes, IsAtEnd}
@@ -16,7 +16,7 @@ use Rattle.lab_defs_report.specs.Cuts.{game_limit, Cut, cut_at, cut_refused, cut
 use Rattle.lab_defs_report.specs.Modes.{cut}
 use Rattle.lab_cli.specs.declared.stop.Stop.{Stop}
 use Rattle.lab_cli.specs.declared.stop.Stop.TheVariants as stop
-use Rattle.lab_cli.specs.Stops.{IsRefusal}
+use Rattle.lab_cli.specs.Stops.{IsRefusal, Advances}
 use Rattle.lab_cli.specs.GameParts.{IsGamePart, IsCutOff, CutsOff}
 use Rattle.lab_cli.specs.CutLines.{RefusesCut}
 use Rattle.lab_cli.proofs.LineCuts.{line_cut, ends_short, ends_inside, too_long_line, too_much}
@@ -109,3 +109,15 @@ left_behind left allowance text line e h = omega (arith, e, h, length-append tex
 -- whether a line is `done`, as it was tested
 pub done_test : (b : Bool) (shown word line : Bytes) → b ≡ bytes_eq shown word → shown ≡ line → word ≡ codes "done" → bytes_eq line (codes "done") ≡ b
 done_test b shown word line e s w = sym (e ∙ ap (λ x. bytes_eq x word) s ∙ ap (bytes_eq line) w)
+
+-- ---- a source moves on
+
+-- two steps are one
+pub advances_both : (a b c : Option Bytes) → Advances a b → Advances b c → Advances a c
+advances_both a b c p q = (p.0 ++ q.0, Consumes-append a b c p.0 q.0 p.1 q.1)
+
+-- a call that gave bytes, or stopped behind some
+pub advances_call : {T E : Type 0} (r : Result T E) (ahead rest : Bytes) (left new : Option Bytes) (allowance : ℕ) (given : T → Bytes) (Why : E → Bytes → Type 0)
+    → IfOk r (λ x. Takes ahead left rest new (given x)) → IfErr r (λ e. StoppedAfter ahead left new allowance (Why e)) → Advances left new
+advances_call (Ok x) ahead rest left new allowance given Why t u = (t.taken, t.consumed)
+advances_call (Err e) ahead rest left new allowance given Why t u = (u.taken, u.consumed)

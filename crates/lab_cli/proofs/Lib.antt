@@ -7,6 +7,8 @@ pub mod PieceLemmas
 pub mod PlainGames
 pub mod PlainLemmas
 pub mod RefusalLemmas
+pub mod ReplyLemmas
 pub mod RowSums
+pub mod RunLemmas
 pub mod WeightLemmas
 pub mod WriteLemmas

@@ -10,7 +10,7 @@ use Rattle.lab_defs_report.specs.Commands as model
 use Rattle.lab_defs_report.specs.Commands.{Command}
 use Rattle.lab_defs_report.specs.States.{uniform_reply}
 use Rattle.lab_defs_report.specs.Refusals.{Refusal, refused_text, refused_in_line, refusal_line}
-use Rattle.lab_defs_report.specs.Reports.{reply_of, not_built}
+use Rattle.lab_defs_report.specs.Reports.{reply_at, reply_of, not_built}
 use Rattle.lab_world.specs.Games.{game_model}
 use Rattle.lab_cli.specs.declared.stop.Stop.{Stop}
 use Rattle.lab_cli.specs.declared.stop.Stop.TheVariants as stop
@@ -72,3 +72,7 @@ others_refused line g (model.resolve seat node rule rounds) e = refl
 others_refused line g (model.cert seat) e = refl
 others_refused line g (model.deal ws) e = refl
 others_refused line g (model.play rounds seed) e = refl
+
+-- the reply to a line that is a command
+pub reply_is : (line number : ℕ) (g : GameModel) (bytes : Bytes) (c : Command) → model.command_at number bytes ≡ Ok c → reply_at line number g bytes ≡ reply_of line g c
+reply_is line number g bytes c e = rw (reply_at, e) refl

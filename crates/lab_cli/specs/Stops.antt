@@ -59,3 +59,7 @@ pub record Found (mode : Option Mode) (old new : Option Bytes) (a : Answer) : Ty
   pub same : built_answer ended taken mode ≡ a
   -- before its end only a refusal is known
   pub early : IsTrue (not ended) → a.refuses ≡ true
+
+-- what a source has left is what it had behind some bytes
+abbrev pub Advances : (old new : Option Bytes) → Type 0
+Advances old new = (taken : Bytes) × Consumes old new taken

@@ -80,7 +80,8 @@ fn last(alloc: Global, written: Vec<u8>, number: u32, line: &[u8]) -> Result<Vec
 
 // A refusal behind what was written before it.
 fn ended(written: Vec<u8>, stop: Stop) -> Stop
-    ensures { (r : Refusal) → IsRefusal r stop → Ends written.items r result }
+    ensures refusal { (r : Refusal) → IsRefusal r stop → Ends written.items r result }
+    ensures memory { stop ≡ Stop.Memory → result ≡ Stop.Memory }
 {
     match stop {
         Stop::Refused { out } => {

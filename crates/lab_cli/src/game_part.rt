@@ -3,6 +3,7 @@ ghost use Rattle.std.specs.Prelude.{◌≡◌, ◌≤◌, ◌++◌, ◌∷◌, [
 ghost use Rattle.lab_io.specs.Causes.{Rose};
 ghost use Rattle.lab_io.specs.Reading.{LineStop};
 ghost use Rattle.lab_cli.specs.CutLines.{RefusesCut};
+ghost use Rattle.lab_cli.specs.Stops.{Advances};
 
 use crate::refusals::refused;
 use crate::stop::Stop;
@@ -36,6 +37,7 @@ impl GamePart {
         ensures live { OnOk result (IsTrue reader.new.live) }
         ensures stop { IfErr result
             (CutsOff (Rose (S.faults source.old) (S.faults source.new)) (S.left source.old) (S.left source.new)) }
+        ensures advances { Advances (S.left source.old) (S.left source.new) }
         ensures later { S.faults source.old ≤ S.faults source.new }
     {
         reader.allow(GAME_LIMIT);

@@ -1,11 +1,12 @@
 //! Pieces of bytes between separators.
-ghost use Rattle.std.specs.Prelude.{◌≡◌, ◌<◌, ◌∷◌, ◌==◌, [], IfSome, length, position, slice_index_or, drop};
+ghost use Rattle.std.specs.Prelude.{◌≡◌, ◌<◌, ◌≤◌, ◌∷◌, ◌==◌, [], IfSome, length, position, slice_index_or, drop};
 ghost use Rattle.std.specs.List.{slice_split};
 ghost use Rattle.std.specs.Option.{option_map_or};
 
 /// The first piece, and what follows its separator, if it has one.
 pub fn cut(bytes: &[u8], separator: u8) -> (&[u8], Option<&[u8]>)
     ensures pieces { slice_split (λ c. c == separator) bytes.now ≡ result.0.now ∷ option_map_or (λ r. slice_split (λ c. c == separator) r.now) result.1 [] }
+    ensures within { length result.0.now ≤ length bytes.now }
     ensures less { IfSome result.1 (λ r. length r.now < length bytes.now) }
 {
     match first_at(bytes, separator) {

@@ -3,7 +3,7 @@ ghost use Rattle.std.specs.Prelude.{◌≡◌, ◌≤◌, ◌<◌, [], Some, IsT
 ghost use Rattle.lab_io.specs.Causes.{Rose};
 ghost use Rattle.lab_io.specs.Reading.{Takes, IsEnd};
 ghost use Rattle.lab_defs_report.specs.Modes as mode;
-ghost use Rattle.lab_cli.specs.Stops.{Says, Found};
+ghost use Rattle.lab_cli.specs.Stops.{Says, Found, Advances};
 ghost use Rattle.lab_cli.specs.GameParts.{NotEnded};
 
 use crate::game_part::GamePart;
@@ -24,6 +24,7 @@ pub fn print<S: Source>(
     requires none_ahead { reader.old.ahead ≡ [] }
     ensures says { Says (Rose (S.faults source.old) (S.faults source.new))
         (Found (Some mode.print) (S.left source.old) (S.left source.new)) result }
+    ensures advances { Advances (S.left source.old) (S.left source.new) }
     ensures later { S.faults source.old ≤ S.faults source.new }
 {
     let part = GamePart::read(alloc, reader, source)?;
@@ -48,6 +49,7 @@ fn check_end<S: Source>(
     ensures end { OnOk result (IsEnd reader.old.ahead reader.new.ahead (S.left source.new)) }
     ensures stop { IfErr result
         (NotEnded (Rose (S.faults source.old) (S.faults source.new)) reader.old.ahead (S.left source.old) (S.left source.new) done) }
+    ensures advances { Advances (S.left source.old) (S.left source.new) }
     ensures later { S.faults source.old ≤ S.faults source.new }
 {
     reader.allow(0);

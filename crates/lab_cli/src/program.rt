@@ -5,7 +5,7 @@ ghost use Rattle.lab_io.specs.Causes.{Rose};
 ghost use Rattle.lab_defs_report.specs.Modes.{usage_line};
 ghost use Rattle.lab_defs_report.specs.Reports.{is_refused, built_mode};
 ghost use Rattle.lab_cli.specs.Runs.{Tells, IsAnswer, IsRejection};
-ghost use Rattle.lab_cli.specs.Stops.{Says, Found};
+ghost use Rattle.lab_cli.specs.Stops.{Says, Found, Advances};
 ghost use Rattle.lab_cli.specs.ModeNames.{mode_model};
 ghost use Rattle.lab_cli.specs.Writes.{Writes, answer_text, answer_status};
 
@@ -51,6 +51,7 @@ pub fn run<S: Source, K: Sink>(
 fn answer<S: Source>(alloc: Global, mode: Mode, source: &mut S) -> Result<Vec<u8>, Stop>
     ensures says { Says (Rose (S.faults source.old) (S.faults source.new))
         (Found (Some (mode_model mode)) (S.left source.old) (S.left source.new)) result }
+    ensures advances { Advances (S.left source.old) (S.left source.new) }
     ensures later { S.faults source.old ≤ S.faults source.new }
 {
     let Ok(mut reader) = LineReader::start(alloc) else {

@@ -5,7 +5,7 @@ ghost use Rattle.lab_io.specs.Causes.{Rose};
 ghost use Rattle.lab_io.specs.Reading.{Takes};
 ghost use Rattle.lab_defs_report.specs.Cuts.{commands_limit};
 ghost use Rattle.lab_defs_report.specs.Modes as mode;
-ghost use Rattle.lab_cli.specs.Stops.{Says, Found};
+ghost use Rattle.lab_cli.specs.Stops.{Says, Found, Advances};
 ghost use Rattle.lab_cli.specs.GameParts.{NotAll};
 
 use crate::commands::answers;
@@ -30,6 +30,7 @@ pub fn session<S: Source>(
     requires none_ahead { reader.old.ahead ≡ [] }
     ensures says { Says (Rose (S.faults source.old) (S.faults source.new))
         (Found (Some mode.session) (S.left source.old) (S.left source.new)) result }
+    ensures advances { Advances (S.left source.old) (S.left source.new) }
     ensures later { S.faults source.old ≤ S.faults source.new }
 {
     let part = GamePart::read(alloc, reader, source)?;
@@ -54,6 +55,7 @@ fn all_behind<S: Source>(
     ensures within { IfOk result (λ v. length v.items ≤ commands_limit) }
     ensures stop { IfErr result
         (NotAll (Rose (S.faults source.old) (S.faults source.new)) reader.old.ahead (S.left source.old) (S.left source.new)) }
+    ensures advances { Advances (S.left source.old) (S.left source.new) }
     ensures later { S.faults source.old ≤ S.faults source.new }
 {
     reader.allow(COMMANDS_LIMIT);

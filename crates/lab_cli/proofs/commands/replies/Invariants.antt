@@ -9,6 +9,7 @@ use Rattle.lab_cli.proofs.commands.replies.Given as goal
 
 abbrev pub invariant-loop-out : goal.invariant-loop-out
 invariant-loop-out l = record {
+  some : 1 ≤ l.number;
   few : l.number + length l.rest ≤ length l.behind + 1;
   so_far : (g : GameModel) → l.uniform ≡ joined (uniform_reply g) ++ 10 ∷ []
       → replies_from l.done 1 g (lines l.behind) ≡ following l.out.items (replies_from l.done l.number g (lines l.rest));

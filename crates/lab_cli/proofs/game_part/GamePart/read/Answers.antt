@@ -1,6 +1,7 @@
 use Rattle.std.proofs.Common.{◌≡◌, ◌+◌, ◌∷◌, [], ◌++◌, length, Ok, Err, ap, sym, ◌∙◌, subst, arith}
+use Rattle.lab_io.specs.Reading.{given_by, LineStop}
 use Rattle.lab_cli.specs.GameParts.{IsGamePart}
-use Rattle.lab_cli.proofs.Collecting.{Collected, line_fits, left_behind, done_test, cut_short, cut_by_stop, part_found, collected_more, rose_earlier}
+use Rattle.lab_cli.proofs.Collecting.{Collected, advances_both, advances_call, line_fits, left_behind, done_test, cut_short, cut_by_stop, part_found, collected_more, rose_earlier}
 use Rattle.lab_cli.proofs.game_part.GamePart.read.Goals as goal
 
 pub returns-in-Ok-End-clause-stop : goal.returns-in-Ok-End-clause-stop
@@ -32,3 +33,27 @@ loop-text-preserved g c =
            (line_fits _ _ _ _ (rw c.in-Ok-Line.field-0-is at c.in-Ok-Line.ensures.allowance) c.loop-text.invariant.left)
            (done_test _ _ _ _ c.if-eq.ensures c.line-in-loop-text.ensures c.as_slice.ensures));
     }
+
+pub returns-in-Ok-End-clause-advances : goal.returns-in-Ok-End-clause-advances
+returns-in-Ok-End-clause-advances g c =
+    advances_both (g.S.Source.left c.args.source.now) (g.S.Source.left c.loop-text.source) (g.S.Source.left c.next.new.source) (c.loop-text.invariant.collected.takes.taken, c.loop-text.invariant.collected.takes.consumed)
+    (advances_call c.next.result c.loop-text.reader.ahead c.next.new.self.ahead (g.S.Source.left c.loop-text.source) (g.S.Source.left c.next.new.source) c.loop-text.reader.allowance
+     (λ took. given_by took c.next.new.self.line) (λ why. LineStop c.loop-text.reader.allowance (g.S.Source.left c.next.new.source) why) c.next.ensures.bytes c.next.ensures.stop)
+
+pub returns-in-Err-clause-advances : goal.returns-in-Err-clause-advances
+returns-in-Err-clause-advances g c =
+    advances_both (g.S.Source.left c.args.source.now) (g.S.Source.left c.loop-text.source) (g.S.Source.left c.next.new.source) (c.loop-text.invariant.collected.takes.taken, c.loop-text.invariant.collected.takes.consumed)
+    (advances_call c.next.result c.loop-text.reader.ahead c.next.new.self.ahead (g.S.Source.left c.loop-text.source) (g.S.Source.left c.next.new.source) c.loop-text.reader.allowance
+     (λ took. given_by took c.next.new.self.line) (λ why. LineStop c.loop-text.reader.allowance (g.S.Source.left c.next.new.source) why) c.next.ensures.bytes c.next.ensures.stop)
+
+pub returns-then-eq-clause-advances : goal.returns-then-eq-clause-advances
+returns-then-eq-clause-advances g c =
+    advances_both (g.S.Source.left c.args.source.now) (g.S.Source.left c.loop-text.source) (g.S.Source.left c.next.new.source) (c.loop-text.invariant.collected.takes.taken, c.loop-text.invariant.collected.takes.consumed)
+    (advances_call c.next.result c.loop-text.reader.ahead c.next.new.self.ahead (g.S.Source.left c.loop-text.source) (g.S.Source.left c.next.new.source) c.loop-text.reader.allowance
+     (λ took. given_by took c.next.new.self.line) (λ why. LineStop c.loop-text.reader.allowance (g.S.Source.left c.next.new.source) why) c.next.ensures.bytes c.next.ensures.stop)
+
+pub returns-in_err-push_ended-clause-advances : goal.returns-in_err-push_ended-clause-advances
+returns-in_err-push_ended-clause-advances g c =
+    advances_both (g.S.Source.left c.args.source.now) (g.S.Source.left c.loop-text.source) (g.S.Source.left c.next.new.source) (c.loop-text.invariant.collected.takes.taken, c.loop-text.invariant.collected.takes.consumed)
+    (advances_call c.next.result c.loop-text.reader.ahead c.next.new.self.ahead (g.S.Source.left c.loop-text.source) (g.S.Source.left c.next.new.source) c.loop-text.reader.allowance
+     (λ took. given_by took c.next.new.self.line) (λ why. LineStop c.loop-text.reader.allowance (g.S.Source.left c.next.new.source) why) c.next.ensures.bytes c.next.ensures.stop)
