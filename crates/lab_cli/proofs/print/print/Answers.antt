@@ -3,7 +3,7 @@ use Rattle.lab_defs_report.specs.GameModes.{read_text}
 use Rattle.lab_defs_report.specs.Modes.{print}
 use Rattle.lab_world.specs.Games.{game_model}
 use Rattle.lab_cli.specs.Stops.{Found, Gives}
-use Rattle.lab_cli.proofs.Collecting.{rose_earlier}
+use Rattle.lab_cli.proofs.Collecting.{advances_both, rose_earlier}
 use Rattle.lab_io.specs.Causes.{Rose}
 use Rattle.lab_cli.proofs.FoundLemmas.{print_refuses, says_passed, says_cut_off, says_text, says_extra, found_printed}
 use Rattle.lab_cli.proofs.print.print.Goals as goal
@@ -28,3 +28,15 @@ pub returns-in-Ok-clause-says : goal.returns-in-Ok-clause-says
 returns-in-Ok-clause-says g c =
     found_printed (g.S.Source.left c.args.source.now) c.read.new.reader.ahead (g.S.Source.left c.read.new.source) c.check_end.new.reader.ahead (g.S.Source.left c.check_end.new.source) c.in_ok-part.part.text.items c.in_ok-part.part.done (game_model c.in_ok-game.game) c.in-Ok.text.items
     c.in_ok-part.ensures.part (ap read_text (sym c.as_slice.ensures.value) ∙ c.in_ok-game.ensures) c.in_ok-check_end.ensures.takes c.in_ok-check_end.ensures.end c.in-Ok.ensures
+
+pub returns-in_err-check_end-clause-advances : goal.returns-in_err-check_end-clause-advances
+returns-in_err-check_end-clause-advances g c =
+    advances_both (g.S.Source.left c.args.source.now) (g.S.Source.left c.read.new.source) (g.S.Source.left c.check_end.new.source) c.in_ok-part.ensures.advances c.check_end.ensures.advances
+
+pub returns-in-Ok-clause-advances : goal.returns-in-Ok-clause-advances
+returns-in-Ok-clause-advances g c =
+    advances_both (g.S.Source.left c.args.source.now) (g.S.Source.left c.read.new.source) (g.S.Source.left c.check_end.new.source) c.in_ok-part.ensures.advances c.check_end.ensures.advances
+
+pub returns-in-Err-clause-advances : goal.returns-in-Err-clause-advances
+returns-in-Err-clause-advances g c =
+    advances_both (g.S.Source.left c.args.source.now) (g.S.Source.left c.read.new.source) (g.S.Source.left c.check_end.new.source) c.in_ok-part.ensures.advances c.check_end.ensures.advances
