@@ -88,6 +88,12 @@ done_reads_all s good a written R left (inr (inr p)) h f e = let no : Memory ≡
 
 -- ---- what a run tells
 
+report_no_mode : (ws : List Bytes) (input : Bytes) → built_mode ws ≡ None → report_of ws input ≡ usage_line
+report_no_mode ws input e = rw (report_of, e) refl
+
+replies_no_mode : (ws : List Bytes) (input : Bytes) → built_mode ws ≡ None → replies_of ws input ≡ usage_line
+replies_no_mode ws input e = rw (replies_of, e) refl
+
 -- words that are no mode are answered with the usage line
 pub tells_rejected : (ws : List Bytes) (left before after : Option Bytes) (f k : ℕ) (s : Status) → built_mode ws ≡ None → Writes before after f k usage_line BadWords s → Tells s ws left left before after
 tells_rejected ws None before after f k s e w = tt
@@ -97,8 +103,8 @@ tells_rejected ws (Some input) before after f k s e w = (
   refl,
   w.appended,
   record {
-    front = front_of_same w.written usage_line _ w.front (rw e refl);
-    early = λ _. front_of_same w.written usage_line _ w.front (rw e refl);
+    front = front_of_same w.written usage_line _ w.front (report_no_mode ws ([] ++ input) e);
+    early = λ _. front_of_same w.written usage_line _ w.front (replies_no_mode ws [] e);
     ends = ends_as s BadWords ws ([] ++ input) w.written usage_line _ w.kind (λ _. tt);
     to_the_end = λ d. absurd (no_other s BadWords Done w.written usage_line _ w.kind (λ x. cc) (λ x. cc) (λ x. cc) d);
   },

@@ -37,6 +37,6 @@ pub returns-in-Ok-clause-advances : goal.returns-in-Ok-clause-advances
 returns-in-Ok-clause-advances g c =
     advances_both (g.S.Source.left c.args.source.now) (g.S.Source.left c.read.new.source) (g.S.Source.left c.check_end.new.source) c.in_ok-part.ensures.advances c.check_end.ensures.advances
 
-pub returns-in-Err-clause-advances : goal.returns-in-Err-clause-advances
-returns-in-Err-clause-advances g c =
+pub returns-clause-advances : goal.returns-clause-advances
+returns-clause-advances g c =
     advances_both (g.S.Source.left c.args.source.now) (g.S.Source.left c.read.new.source) (g.S.Source.left c.check_end.new.source) c.in_ok-part.ensures.advances c.check_end.ensures.advances

@@ -2,6 +2,7 @@ use Rattle.std.proofs.Common.{◌≡◌, Some, None, sym, ap, ◌∙◌, map, st
 use Rattle.lab_io.specs.Causes.{Rose}
 use Rattle.lab_defs_report.specs.Reports.{built_mode}
 use Rattle.lab_cli.specs.ModeNames.{mode_model}
+use Rattle.lab_cli.specs.Stops.{Found}
 use Rattle.lab_cli.proofs.RunLemmas.{tells_rejected, tells_answer, answers, rejected, read_fault_cause, write_fault_cause, not_bad_words}
 use Rattle.lab_cli.proofs.program.run.Goals as goal
 
@@ -10,7 +11,7 @@ returns-in-Some-clause-told g c =
     tells_answer (map string_bytes c.args.words.now) (mode_model c.in-Some.mode) (Rose (g.S.Source.faults c.args.source.now) (g.S.Source.faults c.answer.new.source)) c.answer.result _ _ _ _ _ _ _ (sym c.in-Some.ensures) c.answer.ensures.says c.answer.ensures.advances c.write_answer.ensures
 
 pub returns-in-Some-clause-read_fault : goal.returns-in-Some-clause-read_fault
-returns-in-Some-clause-read_fault g c = read_fault_cause _ _ c.answer.result _ _ _ _ _ c.answer.ensures.says c.write_answer.ensures
+returns-in-Some-clause-read_fault g c = read_fault_cause _ (Found (Some (mode_model c.in-Some.mode)) (g.S.Source.left c.args.source.now) (g.S.Source.left c.answer.new.source)) c.answer.result _ _ _ _ _ c.answer.ensures.says c.write_answer.ensures
 
 pub returns-in-Some-clause-write_fault : goal.returns-in-Some-clause-write_fault
 returns-in-Some-clause-write_fault g c = write_fault_cause c.answer.result _ _ _ _ _ c.write_answer.ensures
