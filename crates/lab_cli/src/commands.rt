@@ -23,7 +23,7 @@ use crate::refusals::{refused, refused_lex, refused_word};
 use crate::stop::Stop;
 use lab_commands::{Command, command_at};
 use lab_io::LINE_LIMIT;
-use lab_text::push_line;
+use lab_text::{LineFault, push_line};
 use lab_units::write_fraction;
 use lab_world::Game;
 use std::alloc::{AllocError, Global};

@@ -16,5 +16,3 @@ pub use game::Game;
 pub use parts::{AssembleFault, PartOutcome, PartPlace, PartRow, Parts};
 pub use place::{ActionId, Outcome, Place, Recall, Row, TokenId, World, WorldId};
 
-#[cfg(test)]
-mod tests;
