@@ -10,7 +10,8 @@ ghost use Rattle.lab_defs_report.specs.Sessions.{last_answer};
 ghost use Rattle.lab_defs_report.specs.Cuts.{line_limit, commands_limit};
 ghost use Rattle.lab_defs_report.specs.Reports.{commands_answer, replies_from, reply_at, reply_of};
 ghost use Rattle.lab_world.specs.Games.{game_model};
-ghost use Rattle.lab_commands.specs.Commands.{command_model, command_fault};
+ghost use Rattle.lab_commands.specs.Commands.{command_model};
+ghost use Rattle.lab_text.specs.Faults.{line_fault};
 ghost use Rattle.lab_cli.specs.Asked.{is_uniform};
 ghost use Rattle.lab_cli.specs.Stops.{Says, RefusesLine, IsRefusal, Ends, Gives};
 ghost use Rattle.lab_defs_text.specs.Games.{GameModel};
@@ -20,7 +21,7 @@ use crate::expectation::expect_uniform;
 use crate::pieces::cut;
 use crate::refusals::{refused, refused_lex, refused_word};
 use crate::stop::Stop;
-use lab_commands::{Command, CommandFault, command_at};
+use lab_commands::{Command, command_at};
 use lab_io::LINE_LIMIT;
 use lab_text::push_line;
 use lab_units::write_fraction;
@@ -123,13 +124,14 @@ fn asks_uniform(command: &Command) -> bool
 }
 
 // The refusal of a fault of a command line.
-fn refused_line(alloc: Global, line: u32, fault: CommandFault) -> Stop
-    ensures { RefusesLine line (command_fault fault) result }
+fn refused_line(alloc: Global, line: u32, fault: LineFault) -> Stop
+    ensures { RefusesLine line (line_fault fault) result }
 {
     match fault {
-        CommandFault::Lex(fault) => refused_lex(alloc, line, fault),
-        CommandFault::BadWord { place } => refused_word(alloc, line, b"BadWord", place),
-        CommandFault::Memory => Stop::Memory,
+        LineFault::Lex(fault) => refused_lex(alloc, line, fault),
+        LineFault::BadWord { place } => refused_word(alloc, line, b"BadWord", place),
+        LineFault::Twice { place } => refused_word(alloc, line, b"Twice", place),
+        LineFault::Memory => Stop::Memory,
     }
 }
 

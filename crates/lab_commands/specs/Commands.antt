@@ -1,15 +1,10 @@
 -- Commands and their faults as the definitions have them.
-use Rattle.std.specs.Prelude.{Option, Some, None}
-use Rattle.lab_defs_text.specs.Faults as fault
 use Rattle.lab_defs_value.specs.Allowances as rule
 use Rattle.lab_defs_report.specs.Commands as model
-use Rattle.lab_lex.specs.Faults.{lex_model}
 use Rattle.lab_commands.specs.declared.command.Command.{Command}
 use Rattle.lab_commands.specs.declared.command.Command.TheVariants as command
 use Rattle.lab_commands.specs.declared.command.RuleName.{RuleName}
 use Rattle.lab_commands.specs.declared.command.RuleName.TheVariants as name
-use Rattle.lab_commands.specs.declared.fault.CommandFault.{CommandFault}
-use Rattle.lab_commands.specs.declared.fault.CommandFault.TheVariants as why
 
 abbrev pub rule_model : RuleName → rule.Rule
 rule_model name.Cfrd = rule.cfrd
@@ -29,9 +24,3 @@ command_model (command.Resolve seat node r rounds) = model.resolve seat node (ru
 command_model (command.Cert seat) = model.cert seat
 command_model (command.Deal words) = model.deal words
 command_model (command.Play rounds seed) = model.play rounds seed
-
--- the fault of the line that the definitions have, none for want of memory
-abbrev pub command_fault : CommandFault → Option fault.LineFault
-command_fault (why.Lex f) = Some (fault.lexical (lex_model f))
-command_fault (why.BadWord place) = Some (fault.bad_word_at place)
-command_fault why.Memory = None

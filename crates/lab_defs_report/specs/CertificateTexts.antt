@@ -1,7 +1,7 @@
 -- Certificates as texts: a table and bounds in JSON.
-use Rattle.std.specs.Prelude.{ℕ, ◌+◌, ◌^◌, ◌==◌, ◌&&◌, ◌||◌, ℤ, List, [], ◌∷◌, ◌++◌, map, nat_le, nat_lt, Bool, if◌then◌else◌, Option, Some, None, option_map, option_and_then, Result, Ok, Err}
+use Rattle.std.specs.Prelude.{ℕ, ◌+◌, ◌^◌, ◌==◌, ◌&&◌, ◌||◌, ℤ, List, [], ◌∷◌, ◌++◌, map, nat_le, nat_lt, if◌then◌else◌, Option, Some, None, option_map, option_and_then, Result, Ok, Err}
 use Rattle.std.specs.List.{join_with_byte}
-use Rattle.std.specs.Str.{bytes_eq, all_scalars, encode_utf8_all, chars}
+use Rattle.std.specs.Str.{is_utf8}
 use lib.Chars.{codes}
 use Rattle.serde_json.specs.Data.{Data, Items, no_items, item, Members, no_members, member}
 use Rattle.serde_json.specs.Find.{get, as_u64, as_number, as_str, as_array, as_object}
@@ -41,10 +41,6 @@ certificate_text c =
 pub data CertificateFault : Type 0 where
   bad_json : CertificateFault
   bad_shape : (key : Bytes) → CertificateFault
-
--- bytes that are the UTF-8 of characters
-abbrev pub is_utf8 : Bytes → Bool
-is_utf8 bytes = all_scalars (chars bytes) && bytes_eq (encode_utf8_all (chars bytes)) bytes
 
 -- the value of a JSON text of at most 127 levels
 abbrev pub json_of : Bytes → Option Data

@@ -1,11 +1,11 @@
 -- The commands of a session, and the lines that give them.
-use Rattle.std.specs.Prelude.{ℕ, ◌+◌, List, [], ◌∷◌, length, Bool, true, Result, Ok, Err, ◌==◌, if◌then◌else◌}
+use Rattle.std.specs.Prelude.{ℕ, ◌+◌, List, [], ◌∷◌, Bool, true, Result, Ok, Err, ◌==◌, if◌then◌else◌}
 use Rattle.std.specs.Str.{bytes_eq}
 use lib.Chars.{codes}
 use Rattle.lab_defs_text.specs.Words.{Bytes, words, first_empty}
 use Rattle.lab_defs_text.specs.Faults.{LineFault, lexical, bad_space_at, bad_word_at}
 use Rattle.lab_defs_text.specs.Steps.{◌>>=◌}
-use Rattle.lab_defs_text.specs.Reading.{one_word, number_at}
+use Rattle.lab_defs_text.specs.Reading.{miscounted, one_word, number_at}
 use Rattle.lab_defs_value.specs.Allowances.{Rule, cfrd, margin, reach}
 
 pub data Command : Type 0 where
@@ -80,14 +80,23 @@ bound_of ws = one_word ws >>= λ w. small_at 2 w >>= λ seat. Ok (bound seat)
 abbrev pub show_of : List Bytes → Result Command LineFault
 show_of ws = one_word ws >>= λ w. small_at 2 w >>= λ seat. Ok (show seat)
 
+-- three words, and those behind them
+abbrev pub three_and_more : List Bytes → Result (Bytes × Bytes × Bytes × List Bytes) LineFault
+three_and_more (a ∷ b ∷ c ∷ ws) = Ok (a, b, c, ws)
+three_and_more ws = miscounted 3 ws
+
 abbrev pub propose_of : List Bytes → Result Command LineFault
-propose_of (s ∷ n ∷ r ∷ ws) = small_at 2 s >>= λ seat. small_at 3 n >>= λ node. rule_at 4 r >>= λ rule. smalls_at 5 ws >>= λ ns. Ok (propose seat node rule ns)
-propose_of ws = Err (bad_word_at (length ws + 2))
+propose_of ws =
+    three_and_more ws >>= λ a. small_at 2 a.0 >>= λ seat. small_at 3 a.1 >>= λ node. rule_at 4 a.2 >>= λ rule. smalls_at 5 a.3 >>= λ ns. Ok (propose seat node rule ns)
+
+-- four words
+abbrev pub four_words : List Bytes → Result (Bytes × Bytes × Bytes × Bytes) LineFault
+four_words (a ∷ b ∷ c ∷ d ∷ []) = Ok (a, b, c, d)
+four_words ws = miscounted 4 ws
 
 abbrev pub resolve_of : List Bytes → Result Command LineFault
-resolve_of (s ∷ n ∷ r ∷ k ∷ ws) =
-    ends_behind 4 ws >>= λ x. small_at 2 s >>= λ seat. small_at 3 n >>= λ node. rule_at 4 r >>= λ rule. small_at 5 k >>= λ rounds. Ok (resolve seat node rule rounds)
-resolve_of ws = Err (bad_word_at (length ws + 2))
+resolve_of ws =
+    four_words ws >>= λ a. small_at 2 a.0 >>= λ seat. small_at 3 a.1 >>= λ node. rule_at 4 a.2 >>= λ rule. small_at 5 a.3 >>= λ rounds. Ok (resolve seat node rule rounds)
 
 abbrev pub cert_of : List Bytes → Result Command LineFault
 cert_of ws = one_word ws >>= λ w. small_at 2 w >>= λ seat. Ok (cert seat)

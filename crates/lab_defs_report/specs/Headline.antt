@@ -9,15 +9,15 @@ use Rattle.lab_defs_game.specs.Nodes.{nodes}
 use Rattle.lab_defs_game.specs.Forms.{game_actions}
 use Rattle.lab_defs_game.specs.Unfolding.{unfold_fault}
 use Rattle.lab_defs_game.specs.Recall.{recall_fault}
-use Rattle.lab_defs_value.specs.Tables.{first_weight}
-use Rattle.lab_defs_value.specs.Replies.{strategy_of}
+use Rattle.lab_defs_value.specs.Tables.{factor}
+use Rattle.lab_defs_value.specs.Replies.{strategy_of, other}
 use Rattle.lab_defs_value.specs.BestValues.{IsBest}
 use Rattle.lab_defs_value.specs.Bounds.{at}
 use Rattle.lab_defs_value.specs.Allowances.{lies_on}
 use Rattle.lab_defs_value.specs.Splices.{subgame_sets}
 use Rattle.lab_defs_value.specs.Passes.{Passes}
-use Rattle.lab_defs_report.specs.Commands.{Command, propose}
-use Rattle.lab_defs_report.specs.States.{State, Plays, Proposal, step_of, table_of, bounds_of, played_by, proposed_table, allowances, root_sets, node_list, inside_count}
+use Rattle.lab_defs_report.specs.Commands.{Command, propose, resolve}
+use Rattle.lab_defs_report.specs.States.{State, Plays, Proposal, step_of, table_of, bounds_of, played_by, proposed_table, allowances, root_sets, node_list, inside_count, candidate_of, with_weights}
 
 -- a game that a session takes
 pub record IsAccepted (g : GameModel) : Type 0 where
@@ -45,9 +45,9 @@ pub record IsGuarded (g : GameModel) (p : Plays) (seat : ℕ) : Type 0 where
   -- by every rule, the strategy as it stands passes at every node where the seat decides
   pub passes : (q : Proposal) → q.seat ≡ seat → q.node < length (nodes g) → 0 < inside_count g q → PassesAt g p q (table_of p seat)
 
--- the weight of an action at a set
+-- the weight of an action at a set, 1 at a pass, which has none in the table
 abbrev pub weight_at : GameModel → ℕ → List ℕ → ℕ → ℕ → ℕ
-weight_at g seat table set action = slice_index table (first_weight (game_actions g seat) set + action)
+weight_at g seat table set action = factor (game_actions g seat) table (record { set = set; action = action })
 
 -- the weights of a seat at the sets outside a node's subgame stay as they were
 abbrev pub SameOutside : GameModel → Proposal → (before after : List ℕ) → Type 0
@@ -63,11 +63,15 @@ pub record Judges (g : GameModel) (before after : Plays) (q : Proposal) (reply :
   pub exactly : (tells_accepted reply ≡ true) ↔ PassesAt g before q (proposed_table g before q)
   pub inside : tells_accepted reply ≡ true → table_of after q.seat ≡ proposed_table g before q
   pub outside : SameOutside g q (table_of before q.seat) (table_of after q.seat)
+  pub others : (table_of after (other q.seat) ≡ table_of before (other q.seat)) × (bounds_of after (other q.seat) ≡ bounds_of before (other q.seat))
   pub kept : tells_accepted reply ≡ false → after ≡ before
 
--- what a command does to the strategies: a proposal is judged, and any other changes nothing
+-- what a command does to the strategies: a proposal is judged, and so is what a re-solve finds; any other command changes nothing
 abbrev pub Does : GameModel → (before after : Plays) → Command → List Bytes → Type 0
 Does g before after (propose seat node rule weights) reply = Judges g before after (record { seat = seat; node = node; rule = rule; weights = weights }) reply
+Does g before after (resolve seat node rule rounds) reply =
+    let q : Proposal = record { seat = seat; node = node; rule = rule; weights = [] } in
+    Judges g before after (with_weights q (candidate_of g before q rounds)) reply
 Does g before after _ reply = after ≡ before
 
 -- no bound rises

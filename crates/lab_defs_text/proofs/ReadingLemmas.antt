@@ -210,7 +210,7 @@ some_is_some (w ∷ ws) ns e =
 -- ---- the words of a line
 
 -- the words behind the first one are those of a line of the kind
-record SpellsRest (k : Kind) (ws : List Bytes) (l : Line) : Type 0 where
+pub record SpellsRest (k : Kind) (ws : List Bytes) (l : Line) : Type 0 where
   pub words : ws ≡ rest_of l
   pub line : is_line l ≡ true
   pub kind : k ≡ kind_of l
@@ -337,7 +337,7 @@ to_read ws l e =
     (and_from (is_name y.0) (is_name p.0) ry.1 rp.1)))) refl
 
 -- words that are read are those of the line
-rest_read : (k : Kind) (ws : List Bytes) (l : Line) → rest_at k ws ≡ Ok l → SpellsRest k ws l
+pub rest_read : (k : Kind) (ws : List Bytes) (l : Line) → rest_at k ws ≡ Ok l → SpellsRest k ws l
 rest_read start_kind ws l e = absurd cc
 rest_read head_kind ws l e = head_read ws l e
 rest_read grid_kind ws l e = grid_read ws l e

@@ -20,3 +20,16 @@ pub mod Expecting
 pub mod Sizing
 pub mod UniformLemmas
 pub mod WholeTables
+pub mod RoundingSums
+pub mod RegretSums
+pub mod RoundedTables
+pub mod Rounds
+pub mod GadgetSets
+pub mod Earnings
+pub mod SubgameRows
+pub mod GadgetForms
+pub mod Entries
+pub mod GadgetLaws
+pub mod GameForms
+pub mod SubgameForms
+pub mod GameGadgets

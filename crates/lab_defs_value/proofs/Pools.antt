@@ -45,7 +45,7 @@ range_push a (suc n) h =
     omega (arith, e, range_push (a + 1) n h)
 
 -- a sum over a range from 0 on is a sum below its end
-range_sum : (n : ℕ) (h : ℕ → ℕ) → sum_over h (range_with_len 0 n) ≡ sum_below n h
+pub range_sum : (n : ℕ) (h : ℕ → ℕ) → sum_over h (range_with_len 0 n) ≡ sum_below n h
 range_sum zero h = refl
 range_sum (suc n) h = range_push 0 n h ∙ ap (λ t. t + h (0 + n)) (range_sum n h) ∙ ap (λ k. sum_below n h + h k) (omega arith)
 

@@ -64,7 +64,7 @@ whole_path v path h = path_is v None [] path none h (length v.actions) (end_belo
 -- ---- one more step at the end of a path
 
 -- which sets it passes through
-passes_push : (I : ℕ) (p : List Taken) (s : Taken) → passes_through I (p ++ s ∷ []) ≡ (eqb s.set I || passes_through I p)
+pub passes_push : (I : ℕ) (p : List Taken) (s : Taken) → passes_through I (p ++ s ∷ []) ≡ (eqb s.set I || passes_through I p)
 passes_push I [] s = refl
 passes_push I (q ∷ p) s = ap (λ b. eqb q.set I || b) (passes_push I p s) ∙ swap (eqb q.set I) (eqb s.set I) (passes_through I p)
   where

@@ -71,7 +71,7 @@ gadget rule opponent roots factors limits f =
       actions1 = with_further further opponent 1 f.actions1;
       actions2 = with_further further opponent 2 f.actions2;
       rows = map (λ z. with_path opponent (entered rule (length further) (path_of z opponent)) z) f.rows
-      ++ map (λ i. ending_row rule opponent factors i (limits i)) (range_with_len 0 roots);
+          ++ map (λ i. ending_row rule opponent factors i (limits i)) (range_with_len 0 roots);
     }
 
 -- the limits of the sets at a node, in set order, by a rule

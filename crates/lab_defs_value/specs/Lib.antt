@@ -14,3 +14,4 @@ pub mod Subgames
 pub mod Gadgets
 pub mod Matching
 pub mod Candidates
+pub mod MatchingLaws

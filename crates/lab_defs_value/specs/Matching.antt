@@ -31,6 +31,10 @@ table_in p seat = if seat == 1 then p.table1 else p.table2
 abbrev pub sets_in : Pair → ℕ → List ℕ
 sets_in p seat = actions_of p.form seat
 
+-- the weight of the action a at the deciding set I
+abbrev pub weight_in : Pair → (seat I a : ℕ) → ℕ
+weight_in p seat I a = slice_index (table_in p seat) (first_weight (sets_in p seat) I + a)
+
 -- the weights of a seat's actions along steps
 abbrev pub weight_along : Pair → ℕ → List Taken → ℕ
 weight_along p seat path = product_over (factor (sets_in p seat) (table_in p seat)) path
@@ -83,7 +87,7 @@ reach_in p seat (z ∷ zs) I = if passes_through I (path_of z seat) then weight_
 abbrev pub reached_at : Pair → (seat I : ℕ) → List ℤ
 reached_at p seat I =
     let before = reach_in p seat p.form.rows I in
-    map (λ a. pos (before * factor (sets_in p seat) (table_in p seat) (record { set = I; action = a }))) (range_with_len 0 (slice_index (sets_in p seat) I))
+    map (λ a. pos (before * weight_in p seat I a)) (range_with_len 0 (slice_index (sets_in p seat) I))
 
 -- at each deciding set of a seat, in set order
 abbrev pub at_deciding : Pair → ℕ → (ℕ → List ℤ) → List ℤ

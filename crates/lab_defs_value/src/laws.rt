@@ -1,6 +1,26 @@
 //! Laws of best values, bounds and allowances.
 
 ghost use Rattle.lab_defs_value.specs.WholeLaws.{UniformLaw, WholeLaw};
+ghost use Rattle.lab_defs_value.specs.MatchingLaws.{
+  RoundedLaw,
+  RoundedTableLaw,
+  ZeroSharesLaw,
+  GameFormLaw,
+  ActionsLaw,
+  ValueLaw,
+  RegretLaw,
+  EarningLaw,
+  TallyLaw,
+  RoundLaw,
+  SubgameLaw,
+  SubgameFormLaw,
+  GadgetLaw,
+  GadgetFormLaw,
+  GameGadgetLaw,
+  AveragesLaw,
+  CandidateLaw,
+  SolvedLaw,
+};
 ghost use Rattle.lab_defs_value.specs.Laws.{
   FormTestLaw,
   UniqueBestLaw,
@@ -106,4 +126,49 @@ pub fn safe_splices()
 /// How large own weights, earnings and best values are at most.
 pub fn sizes()
     ensures { SizeLaw }
+{}
+
+/// Shares are rounded to weights that sum to the grid, whatever they are.
+pub fn rounding()
+    ensures weights { RoundedLaw }
+    ensures tables { RoundedTableLaw }
+    ensures zeros { ZeroSharesLaw }
+{}
+
+/// The value of a set is the sum of its actions' values by their weights, so the regrets of a round
+/// sum to zero by the weights of that round.
+pub fn regrets()
+    ensures there { ActionsLaw }
+    ensures values { ValueLaw }
+    ensures regrets { RegretLaw }
+    ensures earnings { EarningLaw }
+    ensures tallies { TallyLaw }
+    ensures rounds { RoundLaw }
+{}
+
+/// The rows of an accepted game are a form for both seats.
+pub fn games()
+    ensures { GameFormLaw }
+{}
+
+/// A row of a subgame is worth by weights inside what the whole row is worth by the table with these weights in it;
+/// the subgames of an accepted game are forms for both seats.
+pub fn subgames()
+    ensures worths { SubgameLaw }
+    ensures forms { SubgameFormLaw }
+{}
+
+/// A gadget leaves the keeper's sets, paths and pads as they are in the subgame, and puts the opponent's further sets first;
+/// it is a form where the subgame is one, and so in an accepted game.
+pub fn gadgets()
+    ensures keeps { GadgetLaw }
+    ensures forms { GadgetFormLaw }
+    ensures games { GameGadgetLaw }
+{}
+
+/// What regret matching finds are tables, also on a gadget, after any number of rounds.
+pub fn averages()
+    ensures averages { AveragesLaw }
+    ensures candidates { CandidateLaw }
+    ensures solved { SolvedLaw }
 {}

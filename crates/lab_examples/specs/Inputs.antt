@@ -15,6 +15,10 @@ session = codes "session" ∷ []
 abbrev pub check : List Bytes
 check = codes "check" ∷ []
 
+-- the words of the mode `verify`
+abbrev pub verify : List Bytes
+verify = codes "verify" ∷ []
+
 -- the words of the mode `print`
 abbrev pub print : List Bytes
 print = codes "print" ∷ []

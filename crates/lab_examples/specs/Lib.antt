@@ -6,3 +6,4 @@ pub mod KuhnText
 pub mod Texts
 pub mod GeneratedTexts
 pub mod Sessions
+pub mod Certificates

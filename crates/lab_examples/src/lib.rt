@@ -2,15 +2,19 @@
 //! definitions, from the bytes of the input to the bytes of the output.
 #![tactic(auto)]
 
+pub mod certificates;
 pub mod checks;
 pub mod commands;
 pub mod fork;
+pub mod generated;
 pub mod inputs;
 pub mod kuhn;
 pub mod limits;
 pub mod pennies;
 pub mod prints;
 pub mod session;
+pub mod solving;
 pub mod texts;
 pub mod trees;
 pub mod values;
+pub mod walks;

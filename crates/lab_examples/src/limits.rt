@@ -2,7 +2,8 @@
 ghost use Rattle.std.specs.Prelude.{◌≡◌, ◌∷◌, [], Some, None, true, false};
 ghost use lib.Chars.{codes};
 ghost use Rattle.lab_defs_text.specs.Words.{lines};
-ghost use Rattle.lab_defs_report.specs.Modes.{passed_limit, session_from};
+ghost use Rattle.lab_defs_report.specs.Cuts.{passed_limit};
+ghost use Rattle.lab_defs_report.specs.Sessions.{session_from};
 ghost use Rattle.lab_examples.specs.Inputs.{text};
 ghost use Rattle.lab_examples.specs.Sessions.{fork_begun};
 
@@ -53,35 +54,35 @@ pub fn nothing_more()
 
 /// A command line that uses up the bytes is answered.
 pub fn a_command_of_all_the_bytes()
-    ensures { session_from true 37 15 fork_begun (lines (text (codes "expect uniform" ∷ []))) ≡ text (codes "expect -5/6" ∷ []) }
+    ensures { (session_from true 36 1 15 fork_begun (lines (text (codes "expect uniform" ∷ [])))).out ≡ text (codes "expect -5/6" ∷ []) }
 {}
 
 /// A command line that passes them is not, by its line feed or by a byte before.
 pub fn a_command_past_the_bytes()
-    ensures { session_from true 37 14 fork_begun (lines (text (codes "expect uniform" ∷ []))) ≡ text (codes "refused 37 InputTooLong" ∷ []) }
+    ensures { (session_from true 36 1 14 fork_begun (lines (text (codes "expect uniform" ∷ [])))).out ≡ text (codes "refused 37 InputTooLong" ∷ []) }
 {}
 
 /// Each line takes its bytes from those of the next.
 pub fn a_second_command_past_the_bytes()
-    ensures { session_from true 37 21 fork_begun (lines (text (codes "expect uniform" ∷ codes "expect" ∷ []))) ≡ text (codes "expect -5/6" ∷ codes "refused 38 InputTooLong" ∷ []) }
+    ensures { (session_from true 36 1 21 fork_begun (lines (text (codes "expect uniform" ∷ codes "expect" ∷ [])))).out ≡ text (codes "expect -5/6" ∷ codes "refused 38 InputTooLong" ∷ []) }
 {}
 
 /// With one byte more the second line is answered.
 pub fn a_second_command_of_all_the_bytes()
-    ensures { session_from true 37 22 fork_begun (lines (text (codes "expect uniform" ∷ codes "expect" ∷ []))) ≡ text (codes "expect -5/6" ∷ codes "refused 38 NoBlueprint" ∷ []) }
+    ensures { (session_from true 36 1 22 fork_begun (lines (text (codes "expect uniform" ∷ codes "expect" ∷ [])))).out ≡ text (codes "expect -5/6" ∷ codes "refused 38 NoBlueprint" ∷ []) }
 {}
 
 /// A line that has not ended passes them too.
 pub fn an_unfinished_line_past_the_bytes()
-    ensures { session_from true 37 4 fork_begun (lines (codes "expect")) ≡ text (codes "refused 37 InputTooLong" ∷ []) }
+    ensures { (session_from true 36 1 4 fork_begun (lines (codes "expect"))).out ≡ text (codes "refused 37 InputTooLong" ∷ []) }
 {}
 
 /// Its refusal does not wait for the end of the input.
 pub fn an_unfinished_line_past_the_bytes_so_far()
-    ensures { session_from false 37 4 fork_begun (lines (codes "expect")) ≡ text (codes "refused 37 InputTooLong" ∷ []) }
+    ensures { (session_from false 36 1 4 fork_begun (lines (codes "expect"))).out ≡ text (codes "refused 37 InputTooLong" ∷ []) }
 {}
 
 /// Within them nothing is written for it.
 pub fn an_unfinished_line_so_far()
-    ensures { session_from false 37 6 fork_begun (lines (codes "expect")) ≡ [] }
+    ensures { (session_from false 36 1 6 fork_begun (lines (codes "expect"))).out ≡ [] }
 {}

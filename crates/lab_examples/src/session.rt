@@ -1,7 +1,7 @@
-//! What the mode `session` writes.
+//! What the program writes today in the mode `session`.
 ghost use Rattle.std.specs.Prelude.{◌≡◌, ◌++◌, ◌∷◌, []};
 ghost use lib.Chars.{codes};
-ghost use Rattle.lab_defs_report.specs.Reports.{report_of};
+ghost use Rattle.lab_defs_report.specs.Reports.{report_of, replies_of};
 ghost use Rattle.lab_examples.specs.Inputs.{text, session, pennies, fork};
 
 /// Matching pennies on a grid of 2 is fair.
@@ -24,29 +24,44 @@ pub fn pennies_alone()
     ensures { report_of session (pennies (codes "2")) ≡ [] }
 {}
 
-/// An empty input is not plain.
+/// An empty input ends before its game does.
 pub fn empty()
-    ensures { report_of session [] ≡ text (codes "refused 0 NotBuilt" ∷ []) }
+    ensures { report_of session [] ≡ text (codes "refused 1 CutShort" ∷ []) }
 {}
 
-/// A game of more than one step is not plain.
+/// A game of more than one step is not taken.
 pub fn fork_is_not_plain()
-    ensures { report_of session fork ≡ text (codes "refused 0 NotBuilt" ∷ []) }
+    ensures { report_of session fork ≡ text (codes "refused 36 NotBuilt" ∷ []) }
 {}
 
-/// Another command is not built.
+/// Another command is not built, whatever stood before.
 pub fn another_command()
-    ensures { report_of session (pennies (codes "2") ++ text (codes "bound 1" ∷ [])) ≡ text (codes "refused 0 NotBuilt" ∷ []) }
+    ensures { report_of session (pennies (codes "2") ++ text (codes "expect uniform" ∷ codes "bound 1" ∷ [])) ≡ text (codes "expect 0/1" ∷ codes "refused 22 NotBuilt" ∷ []) }
+{}
+
+/// A line that is no command has its fault.
+pub fn no_command()
+    ensures { report_of session (pennies (codes "2") ++ text (codes "bound x" ∷ [])) ≡ text (codes "refused 21 BadNumber 2" ∷ []) }
 {}
 
 /// A command that no line feed ends is not one.
 pub fn no_line_feed()
-    ensures { report_of session (pennies (codes "2") ++ codes "expect uniform") ≡ text (codes "refused 0 NotBuilt" ∷ []) }
+    ensures { report_of session (pennies (codes "2") ++ codes "expect uniform") ≡ text (codes "refused 21 NoNewline" ∷ []) }
 {}
 
 /// One number has one spelling.
 pub fn a_leading_zero()
-    ensures { report_of session (pennies (codes "02") ++ text (codes "expect uniform" ∷ [])) ≡ text (codes "refused 0 NotBuilt" ∷ []) }
+    ensures { report_of session (pennies (codes "02") ++ text (codes "expect uniform" ∷ [])) ≡ text (codes "refused 2 BadNumber 2" ∷ []) }
+{}
+
+/// Before the end of the input no command is answered.
+pub fn so_far()
+    ensures { replies_of session (pennies (codes "2") ++ text (codes "expect uniform" ∷ [])) ≡ [] }
+{}
+
+/// A fault of the game does not wait for the end.
+pub fn a_leading_zero_so_far()
+    ensures { replies_of session (pennies (codes "02")) ≡ text (codes "refused 2 BadNumber 2" ∷ []) }
 {}
 
 /// Words that are no mode are answered with the usage line.

@@ -1,5 +1,5 @@
 -- Bytes with no line feed, and the byte where a line ends.
-use Rattle.std.proofs.Common.{◌≡◌, ℕ, ◌+◌, ◌≤◌, ◌<◌, ◌∙◌, slice_index, ◌++◌, Bool, List, [], ◌∷◌, ◌&&◌, ◌==◌, not, true, false, cond, IsTrue, length, take, drop, append_assoc, length-append, refl, arith}
+use Rattle.std.proofs.Common.{◌≡◌, ℕ, ◌+◌, ◌≤◌, ◌<◌, ◌∙◌, slice_index, ◌++◌, Bool, List, [], ◌∷◌, ◌==◌, not, true, false, cond, IsTrue, length, take, drop, append_assoc, length-append, refl, arith}
 use Rattle.std.proofs.Math.Numerals.{one-add}
 use Rattle.std.proofs.lemmas.Bool.{and_from, and_parts}
 use Rattle.std.proofs.lemmas.List.{take-append-le, take-append-drop, length-take-le}
@@ -15,9 +15,10 @@ pub list_all-prefix : {X : Type 0} (p : X → Bool) (xs : List X) → list_all p
 list_all-prefix p [] = refl
 list_all-prefix p (x ∷ xs) =
     let at : (b : Bool) → p x ≡ b → list_all p (take (cond b (1 + prefix_len p xs) 0) (x ∷ xs)) ≡ true =
-        λ b. elim b as (λ b. p x ≡ b → list_all p (take (cond b (1 + prefix_len p xs) 0) (x ∷ xs)) ≡ true) [
-          true ↦ λ passes. rw one-add (and_from (p x) (list_all p (take (prefix_len p xs) xs)) passes (list_all-prefix p xs))
-        | false ↦ λ _. refl ] in
+    λ b. elim b as (λ b. p x ≡ b → list_all p (take (cond b (1 + prefix_len p xs) 0) (x ∷ xs)) ≡ true) [
+      | true ↦ λ passes. rw one-add (and_from (p x) (list_all p (take (prefix_len p xs) xs)) passes (list_all-prefix p xs))
+      | false ↦ λ _. refl
+    ] in
     at (p x) refl
 
 -- so many bytes stand before the first line feed
@@ -40,19 +41,23 @@ IsBefore-from bytes n first =
 pub no_feed-take : (n : ℕ) (bytes : List ℕ) → IsTrue (no_feed bytes) → IsTrue (no_feed (take n bytes))
 no_feed-take n bytes none = (and_parts (no_feed (take n bytes)) (no_feed (drop n bytes)) (rw (← list_all-append, take-append-drop) none)).0
 
--- two pieces with no line feed have none together, and neither has a front of them, whatever follows
-pub no_feed-front : (n : ℕ) (line ahead : List ℕ) (count : ℕ) → IsTrue (no_feed line) → count ≤ length ahead → IsTrue (no_feed (take count ahead)) → n ≤ length line + count → IsTrue (no_feed (take n (line ++ ahead)))
-no_feed-front n line ahead count none within more short =
+-- a line that has grown by the bytes before the first line feed has none
+pub no_feed-grown : (line ahead : List ℕ) (count : ℕ) → IsTrue (no_feed line) → IsBefore ahead count → IsTrue (no_feed (line ++ take count ahead))
+no_feed-grown line ahead count none before = rw list_all-append (and_from (no_feed line) (no_feed (take count ahead)) none before.unended)
+
+-- nor has a front of such a line, whatever follows
+pub no_feed-front : (n : ℕ) (line ahead : List ℕ) (count : ℕ) → IsTrue (no_feed line) → IsBefore ahead count → n ≤ length line + count → IsTrue (no_feed (take n (line ++ ahead)))
+no_feed-front n line ahead count none before short =
+    let within = before.within in
     let whole : line ++ ahead ≡ (line ++ take count ahead) ++ drop count ahead = rw (append_assoc, take-append-drop) refl in
     let front : n ≤ length (line ++ take count ahead) = rw (length-append, length-take-le) short in
-    let both : IsTrue (no_feed (line ++ take count ahead)) = rw list_all-append (and_from (no_feed line) (no_feed (take count ahead)) none more) in
-    rw (whole, take-append-le) (no_feed-take n (line ++ take count ahead) both)
+    rw (whole, take-append-le) (no_feed-take n (line ++ take count ahead) (no_feed-grown line ahead count none before))
 
--- a line that has grown by such bytes, within the limit, is a line
-pub IsLine-append : (line ahead : List ℕ) (count : ℕ) → IsLine line → IsBefore ahead count → length line + count ≤ LINE_LIMIT → IsLine (line ++ take count ahead)
-IsLine-append line ahead count whole before fits =
+-- within the limit it is a line
+pub IsLine-grown : (line ahead : List ℕ) (count : ℕ) → IsLine line → IsBefore ahead count → length line + count ≤ LINE_LIMIT → IsLine (line ++ take count ahead)
+IsLine-grown line ahead count whole before fits =
     let within = before.within in
     record {
-      unended = rw list_all-append (and_from (no_feed line) (no_feed (take count ahead)) whole.unended before.unended);
+      unended = no_feed-grown line ahead count whole.unended before;
       short = rw (length-append, length-take-le) fits;
     }

@@ -1,22 +1,11 @@
 -- Bytes that were given in two steps, and bytes that were read ahead without being given.
-use Rattle.std.proofs.Common.{◌≡◌, ℕ, ◌+◌, ◌-◌, ◌≤◌, ◌<◌, ◌∷◌, length, slice_index, arith, slice_range, ◌++◌, List, [], take, drop, None, Some, append_assoc, append-nil, sym, subst, refl}
+use Rattle.std.proofs.Common.{◌≡◌, ℕ, ◌+◌, ◌-◌, ◌≤◌, ◌<◌, ◌∷◌, length, slice_index, arith, slice_range, ◌++◌, List, [], take, drop, append_assoc, append-nil, subst, refl}
 use Rattle.std.proofs.lemmas.List.{take-append-drop, drop-take, drop-drop, drop_more}
 use Rattle.std.proofs.Math.Seq.{take-length}
 use Rattle.std.specs.declared.option.Option.{Option}
-use Rattle.std.specs.Io.KnownBytes.{Consumes, Keeps}
+use Rattle.std.specs.Io.KnownBytes.{Consumes}
 use Rattle.lab_io.specs.Reading.{Takes}
 use Rattle.lab_io.proofs.Fronts.{Consumes-append}
-
--- where the known bytes stay as they were, none were read
-pub Consumes-none : (a b : Option (List ℕ)) → Keeps a b → Consumes a b []
-Consumes-none None b same = tt
-Consumes-none (Some xs) None same = elim same [ ]
-Consumes-none (Some xs) (Some ys) same = sym same
-
--- nothing is given where nothing is done
-pub Takes-none : (ahead : List ℕ) (left : Option (List ℕ)) → Takes ahead left ahead left []
-Takes-none ahead None = record { taken = []; consumed = tt; split = append-nil ahead }
-Takes-none ahead (Some xs) = record { taken = []; consumed = refl; split = append-nil ahead }
 
 -- what was given, and what was given after it, was given together
 pub Takes-append : {a b c : List ℕ} {l m n : Option (List ℕ)} {first second : List ℕ} → Takes a l b m first → Takes b m c n second → Takes a l c n (first ++ second)

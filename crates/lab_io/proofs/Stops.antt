@@ -1,8 +1,8 @@
 -- What a reader has taken where it stops, and why it stops at a byte past the limit or the allowance.
-use Rattle.std.proofs.Common.{◌≡◌, ℕ, ◌+◌, ◌<◌, ◌≤◌, ◌++◌, List, [], ◌∷◌, true, IsTrue, length, take, slice_index, length-append, sym, subst, arith, refl, ap, min}
+use Rattle.std.proofs.Common.{◌≡◌, ℕ, ◌+◌, ◌<◌, ◌≤◌, ◌++◌, List, IsTrue, length, length-append, sym, subst, arith, ap, min}
 use Rattle.std.proofs.lemmas.List.{get_or-append-add}
 use Rattle.std.specs.declared.option.Option.{Option}
-use Rattle.lab_io.proofs.Feeds.{no_feed-front}
+use Rattle.lab_io.proofs.Feeds.{IsBefore, no_feed-front}
 use Rattle.lab_io.specs.Reading.{Takes, StoppedAfter, PassesLimit, PassesAllowance, no_feed}
 use Rattle.lab_io.specs.declared.line_reader.TheConstants.{READ_AHEAD, LINE_LIMIT}
 
@@ -15,22 +15,22 @@ StoppedAfter-given {a} {b} {l} {m} {given} {allowance} Why p paid short why = re
   why = subst Why (sym p.split) why;
 }
 
--- a line that has grown longer than the limit passes it
-pub PassesLimit-at : (line ahead : List ℕ) (count allowance : ℕ) → IsTrue (no_feed line) → count ≤ length ahead → IsTrue (no_feed (take count ahead)) → LINE_LIMIT < length line + count → LINE_LIMIT ≤ allowance → PassesLimit allowance (line ++ ahead)
-PassesLimit-at line ahead count allowance none within more long reached = record {
+-- a line that grows longer than the limit passes it
+pub PassesLimit-grown : (line ahead : List ℕ) (count allowance : ℕ) → IsTrue (no_feed line) → IsBefore ahead count → LINE_LIMIT < length line + count → LINE_LIMIT ≤ allowance → PassesLimit allowance (line ++ ahead)
+PassesLimit-grown line ahead count allowance none before long reached = record {
   long = rw length-append (omega arith);
-  unended = no_feed-front (LINE_LIMIT + 1) line ahead count none within more (omega arith);
+  unended = no_feed-front (LINE_LIMIT + 1) line ahead count none before (omega arith);
   reached = reached;
 }
 
--- a line within the allowance that with what comes next, and the line feed after that, is longer than it
-pub PassesAllowance-at : (line ahead : List ℕ) (count allowance : ℕ) → IsTrue (no_feed line) → count ≤ length ahead → IsTrue (no_feed (take count ahead)) → (count < length ahead → slice_index ahead count ≡ 10) → min (length line + count) (allowance + 1) ≤ LINE_LIMIT → allowance < length line + min (count + 1) (length ahead) → PassesAllowance allowance (line ++ ahead)
-PassesAllowance-at line ahead count allowance none within more feed first past = record {
+-- a line that grows, with its line feed where that is there, longer than the allowance passes it, unless it passes the limit first
+pub PassesAllowance-grown : (line ahead : List ℕ) (count allowance : ℕ) → IsTrue (no_feed line) → IsBefore ahead count → min (length line + count) (allowance + 1) ≤ LINE_LIMIT → allowance < length line + min (count + 1) (length ahead) → PassesAllowance allowance (line ++ ahead)
+PassesAllowance-grown line ahead count allowance none before first past = record {
   long = rw length-append (omega arith);
-  unended = no_feed-front allowance line ahead count none within more (omega arith);
+  unended = no_feed-front allowance line ahead count none before (omega arith);
   reached = omega arith;
   at_limit = λ same.
       let full : LINE_LIMIT ≡ length line + count = omega arith in
       let ended : count < length ahead = omega arith in
-      rw (full, get_or-append-add) (feed ended);
+      rw (full, get_or-append-add) (before.feed ended);
 }

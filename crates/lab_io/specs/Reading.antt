@@ -22,7 +22,7 @@ pub record Takes (ahead_old : List ℕ) (left_old : Option (List ℕ)) (ahead_ne
   pub consumed : Consumes left_old left_new taken
   pub split : ahead_old ++ taken ≡ given ++ ahead_new
 
--- what the bytes of a stop must be, for the bytes read ahead and some then taken: at most a buffer past the allowance
+-- a fact holds of the bytes that a stop was at: those read ahead and some then taken from the source, at most a buffer past the allowance
 pub record StoppedAfter (ahead : List ℕ) (old new : Option (List ℕ)) (allowance : ℕ) (Why : List ℕ → Type 0) : Type 0 where
   pub taken : List ℕ
   pub consumed : Consumes old new taken
@@ -60,7 +60,7 @@ pub record PassesLimit (allowance : ℕ) (bytes : List ℕ) : Type 0 where
   pub unended : IsTrue (no_feed (take (LINE_LIMIT + 1) bytes))
   pub reached : LINE_LIMIT ≤ allowance
 
--- the byte past the allowance stands in a line within the limit, or is its line feed
+-- the byte past the allowance stands in a line within the limit, or is the line feed of one
 pub record PassesAllowance (allowance : ℕ) (bytes : List ℕ) : Type 0 where
   pub long : allowance < length bytes
   pub unended : IsTrue (no_feed (take allowance bytes))

@@ -31,6 +31,7 @@ pub struct NoMemory;
 #[cfg(test)]
 mod tests {
     use super::*;
+    use std::alloc::Global;
     use std::test::Fail;
 
     #[test]
@@ -62,6 +63,74 @@ mod tests {
         let mut reader = LineReader::start(alloc)?;
         reader.allow(5);
         assert_eq!(rt; reader.rest(&mut source)?.len(), 5);
+        Ok(())
+    }
+
+    #[test]
+    fn gives_lines_also_across_the_end_of_the_buffer(rt: HostRuntime) -> Result<(), Fail> {
+        let alloc = rt.alloc();
+        let mut bytes = Vec::new(alloc);
+        bytes.extend_from_slice(b"ab\n\n")?;
+        bytes.extend_from_slice(&vec![in alloc; 7; READ_AHEAD]?)?;
+        bytes.extend_from_slice(b"\n")?;
+        let mut source = MemSource::new(bytes, Vec::new(alloc));
+        let mut reader = LineReader::start(alloc)?;
+        reader.allow(65541);
+        assert_eq!(rt; reader.next(&mut source)?, Took::Line);
+        assert!(rt; reader.line() == b"ab".as_slice());
+        assert_eq!(rt; reader.next(&mut source)?, Took::Line);
+        assert!(rt; reader.line().is_empty());
+        assert_eq!(rt; reader.next(&mut source)?, Took::Line);
+        assert_eq!(rt; reader.line().len(), READ_AHEAD);
+        assert_eq!(rt; reader.next(&mut source)?, Took::End);
+        assert!(rt; reader.line().is_empty());
+        Ok(())
+    }
+
+    #[test]
+    fn gives_the_rest_after_a_line(rt: HostRuntime) -> Result<(), Fail> {
+        let alloc = rt.alloc();
+        let mut bytes = Vec::new(alloc);
+        bytes.extend_from_slice(b"ab\ncd")?;
+        let mut source = MemSource::new(bytes, Vec::new(alloc));
+        let mut reader = LineReader::start(alloc)?;
+        reader.allow(5);
+        assert_eq!(rt; reader.next(&mut source)?, Took::Line);
+        assert!(rt; reader.rest(&mut source)?.as_slice() == b"cd".as_slice());
+        Ok(())
+    }
+
+    // What the first line of the bytes comes to.
+    fn first_line(alloc: Global, bytes: Vec<u8>, allowance: u64) -> Result<Took, ReadStop> {
+        let mut source = MemSource::new(bytes, Vec::new(alloc));
+        let Ok(mut reader) = LineReader::start(alloc) else {
+            return Err(ReadStop::Memory);
+        };
+        reader.allow(allowance);
+        reader.next(&mut source)
+    }
+
+    #[test]
+    fn stops_where_there_is_no_line(rt: HostRuntime) -> Result<(), Fail> {
+        let alloc = rt.alloc();
+        for (text, allowance, wanted) in [
+            ("ab\n", 3, Ok(Took::Line)),
+            ("ab\n", 2, Err(ReadStop::AllowancePassed)),
+            ("ab", 2, Err(ReadStop::NoNewline)),
+            ("ab", 1, Err(ReadStop::AllowancePassed)),
+            ("", 0, Ok(Took::End)),
+        ] {
+            let mut bytes = Vec::new(alloc);
+            bytes.extend_from_slice(text.as_bytes())?;
+            assert!(rt;
+                first_line(alloc, bytes, allowance) == wanted,
+                "{text:?} with {allowance}"
+            );
+        }
+        let long = vec![in alloc; 7; LINE_LIMIT + 1]?;
+        assert!(rt; first_line(alloc, long, 1_048_576) == Err(ReadStop::LineTooLong));
+        let long = vec![in alloc; 7; LINE_LIMIT + 1]?;
+        assert!(rt; first_line(alloc, long, 1_048_575) == Err(ReadStop::AllowancePassed));
         Ok(())
     }
 }

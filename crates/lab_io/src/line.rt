@@ -36,9 +36,9 @@ ghost use Rattle.lab_io.specs.Reading.{
   no_feed,
 };
 
+use crate::Source;
 use crate::line_reader::{LINE_LIMIT, READ_AHEAD, ReadStop, Took};
 use crate::read_ahead::ReadAhead;
-use crate::Source;
 
 /// Takes the bytes of the next line into an empty one, without its line feed, and asks the source
 /// for more only where no byte is read ahead.
@@ -56,7 +56,7 @@ pub fn read_line<S: Source>(
     ensures allowance { IfOk result (λ took. length (given_by took line.new.items) ≤ allowance) }
     ensures stop { IfErr result (λ stop.
         StoppedAfter ahead.old (S.left source.old) (S.left source.new) allowance
-            (LineStop allowance (S.left source.new) stop)) }
+        (LineStop allowance (S.left source.new) stop)) }
     ensures later { S.faults source.old ≤ S.faults source.new }
     ensures fault { result ≡ Err ReadStop.ReadFault →
         Rose (S.faults source.old) (S.faults source.new) }

@@ -141,7 +141,7 @@ impl LineReader {
             self.new.allowance + length (given_by took self.new.line) ≡ self.old.allowance) }
         ensures stop { IfErr result (λ stop.
             StoppedAfter self.old.ahead (S.left source.old) (S.left source.new) self.old.allowance
-                (LineStop self.old.allowance (S.left source.new) stop)) }
+            (LineStop self.old.allowance (S.left source.new) stop)) }
         ensures later { S.faults source.old ≤ S.faults source.new }
         ensures fault { result ≡ Err ReadStop.ReadFault →
             Rose (S.faults source.old) (S.faults source.new) }
@@ -173,7 +173,7 @@ impl LineReader {
         ensures allowance { IfOk result (λ v. self.new.allowance + length v.items ≡ self.old.allowance) }
         ensures stop { IfErr result (λ stop.
             StoppedAfter self.old.ahead (S.left source.old) (S.left source.new) self.old.allowance
-                (RestStop self.old.allowance stop)) }
+            (RestStop self.old.allowance stop)) }
         ensures later { S.faults source.old ≤ S.faults source.new }
         ensures fault { result ≡ Err ReadStop.ReadFault →
             Rose (S.faults source.old) (S.faults source.new) }
@@ -206,7 +206,7 @@ fn read_to_end<S: Source>(
     ensures allowance { IfOk result (λ v. length v.items ≤ allowance) }
     ensures stop { IfErr result (λ stop.
         StoppedAfter ahead.old (S.left source.old) (S.left source.new) allowance
-            (RestStop allowance stop)) }
+        (RestStop allowance stop)) }
     ensures later { S.faults source.old ≤ S.faults source.new }
     ensures fault { result ≡ Err ReadStop.ReadFault →
         Rose (S.faults source.old) (S.faults source.new) }

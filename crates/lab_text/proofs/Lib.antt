@@ -1,3 +1,10 @@
 pub mod FitLemmas
 pub mod LineLemmas
 pub mod WordLemmas
+pub mod NumberLemmas
+pub mod NameSteps
+pub mod PlaceSteps
+pub mod FaultSteps
+pub mod TakeSteps
+pub mod LoopSteps
+pub mod GameSteps

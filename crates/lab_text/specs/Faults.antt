@@ -3,6 +3,8 @@ use Rattle.std.specs.Prelude.{Option, Some, None}
 use Rattle.lab_defs_text.specs.Faults as fault
 use Rattle.lab_lex.specs.Faults.{lex_model}
 use Rattle.lab_world.specs.Drafts.{assemble_fault}
+use Rattle.lab_text.specs.declared.line_fault.LineFault.{LineFault}
+use Rattle.lab_text.specs.declared.line_fault.LineFault.TheVariants as line
 use Rattle.lab_text.specs.declared.fault.TextFault.{TextFault}
 use Rattle.lab_text.specs.declared.fault.TextFault.TheVariants as text
 
@@ -16,3 +18,10 @@ text_fault (text.BadWord line place) = Some (fault.in_line line (fault.bad_word_
 text_fault (text.Twice line place) = Some (fault.in_line line (fault.twice_at place))
 text_fault (text.Assemble f) = assemble_fault f
 text_fault text.Memory = None
+
+-- likewise of a line
+abbrev pub line_fault : LineFault → Option fault.LineFault
+line_fault (line.Lex f) = Some (fault.lexical (lex_model f))
+line_fault (line.BadWord place) = Some (fault.bad_word_at place)
+line_fault (line.Twice place) = Some (fault.twice_at place)
+line_fault line.Memory = None

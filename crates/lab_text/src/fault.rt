@@ -1,5 +1,5 @@
 //! Why bytes are the text of no game.
-use lab_lex::LexFault;
+use lab_lex::{LexFault, NoMemory};
 use lab_world::AssembleFault;
 
 /// The first fault of a text. Lines count from 1, and so do the words of a line.
@@ -21,4 +21,30 @@ pub enum TextFault {
     Assemble(AssembleFault),
     /// No memory was left.
     Memory,
+}
+
+impl From<NoMemory> for TextFault {
+    ghost use Rattle.std.specs.Prelude.{◌≡◌, None};
+    ghost use Rattle.lab_text.specs.Faults.{text_fault};
+
+    ghost from_gives = { λ _ e. text_fault e ≡ None };
+
+    fn from(_fault: NoMemory) -> TextFault {
+        TextFault::Memory
+    }
+}
+
+impl From<AssembleFault> for TextFault {
+    ghost use Rattle.std.specs.Prelude.{◌≡◌};
+    ghost use Rattle.lab_world.specs.Drafts.{assemble_fault};
+    ghost use Rattle.lab_text.specs.Faults.{text_fault};
+
+    ghost from_gives = { λ fault e. text_fault e ≡ assemble_fault fault };
+
+    fn from(fault: AssembleFault) -> TextFault {
+        if fault == AssembleFault::Memory {
+            return TextFault::Memory;
+        }
+        TextFault::Assemble(fault)
+    }
 }

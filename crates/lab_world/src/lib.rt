@@ -3,9 +3,18 @@
 
 mod assemble;
 mod game;
+mod known;
+mod numbered;
+mod ordered;
 mod parts;
 mod place;
+mod placed;
+mod rooted;
+mod stages;
 
 pub use game::Game;
 pub use parts::{AssembleFault, PartOutcome, PartPlace, PartRow, Parts};
 pub use place::{ActionId, Outcome, Place, Recall, Row, TokenId, World, WorldId};
+
+#[cfg(test)]
+mod tests;

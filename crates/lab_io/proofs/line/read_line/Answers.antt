@@ -1,5 +1,5 @@
 -- Where the reader stops, it has taken the line so far and what is read ahead.
-use Rattle.std.proofs.Common.{◌≡◌, ◌<◌, ◌≤◌, ◌++◌, arith, length, append-nil, slice_index}
+use Rattle.std.proofs.Common.{◌<◌, arith, length}
 use Rattle.std.proofs.lemmas.Grind.{common_steps}
 use Rattle.std.proofs.lemmas.Result.{err_from_is_err_and}
 use Rattle.lab_io.proofs.Givings.{Takes-ahead, Takes-more, Takes-line}

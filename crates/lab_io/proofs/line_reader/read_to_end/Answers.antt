@@ -1,5 +1,5 @@
 -- Where the reader stops, it has taken what it gave and what is read ahead.
-use Rattle.std.proofs.Common.{◌≡◌, ◌≤◌, ◌++◌, arith, length, length-append, append-nil}
+use Rattle.std.proofs.Common.{◌≡◌, ◌++◌, arith, length-append, append-nil}
 use Rattle.std.proofs.lemmas.Grind.{common_steps}
 use Rattle.lab_io.proofs.Givings.{Takes-ahead, Takes-rest}
 use Rattle.lab_io.proofs.Stops.{StoppedAfter-given}

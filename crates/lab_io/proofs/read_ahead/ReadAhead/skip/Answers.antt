@@ -1,5 +1,5 @@
 -- A later beginning leaves out the first bytes.
-use Rattle.std.proofs.Common.{◌+◌, ◌≤◌, arith, length-drop}
+use Rattle.std.proofs.Common.{arith, length-drop}
 use Rattle.std.proofs.lemmas.List.{length-take}
 use Rattle.lab_io.proofs.Givings.{slice_range-drop}
 use Rattle.lab_io.proofs.read_ahead.ReadAhead.skip.Goals as goal

@@ -1,0 +1,73 @@
+-- The rounds of regret matching: their tallies and tables, and what candidates are.
+use Rattle.std.proofs.Common.{◌≡◌, zero, suc, pos, List, [], ◌∷◌, length, refl, sym, ap, ◌∙◌, subst, inl, inr}
+use Rattle.std.specs.Prelude.{ℤ}
+use Rattle.std.proofs.lemmas.List.{length-replicate}
+use Rattle.lab_defs_game.specs.Forms.{Form, form_of}
+use Rattle.lab_defs_value.specs.Expectation.{grid_of}
+use Rattle.lab_defs_value.specs.Subgames.{span_at, span_actions}
+use Rattle.lab_defs_value.specs.Gadgets.{gadget_form}
+use Rattle.lab_defs_value.specs.Matching.{Pair, added, at_deciding, regrets_at, reached_at, Tally, tally_start, with_pair, pair_of, tally_after}
+use Rattle.lab_defs_value.specs.Candidates.{candidate}
+use Rattle.lab_defs_value.specs.MatchingLaws.{IsWhole, IsTally, TallyLaw, RoundLaw, AveragesLaw, CandidateLaw, SolvedLaw}
+use Rattle.lab_defs_value.proofs.RegretSums.{regret_law}
+use Rattle.lab_defs_value.proofs.RoundedTables.{all_weights, rounded_whole, sums_below}
+
+-- what is added changes no length
+added_long : (xs ys : List ℤ) → length (added xs ys) ≡ length xs
+added_long [] ys = refl
+added_long (x ∷ xs) [] = refl
+added_long (x ∷ xs) (y ∷ ys) = ap suc (added_long xs ys)
+
+-- before the first round
+start_long : (f : Form) → IsTally f (tally_start f)
+start_long f = record {
+  regrets1 = length-replicate (all_weights f.actions1) (pos 0);
+  regrets2 = length-replicate (all_weights f.actions2) (pos 0);
+  sums1 = length-replicate (all_weights f.actions1) (pos 0);
+  sums2 = length-replicate (all_weights f.actions2) (pos 0);
+}
+
+-- one more round
+pair_long : (f : Form) (p : Pair) (t : Tally) → IsTally f t → IsTally f (with_pair p t)
+pair_long f p t ok = record {
+  regrets1 = added_long t.regrets1 (at_deciding p 1 (regrets_at p 1)) ∙ ok.regrets1;
+  regrets2 = added_long t.regrets2 (at_deciding p 2 (regrets_at p 2)) ∙ ok.regrets2;
+  sums1 = added_long t.sums1 (at_deciding p 1 (reached_at p 1)) ∙ ok.sums1;
+  sums2 = added_long t.sums2 (at_deciding p 2 (reached_at p 2)) ∙ ok.sums2;
+}
+
+-- after any number of rounds
+pub tally_law : TallyLaw
+tally_law grid1 grid2 f zero = start_long f
+tally_law grid1 grid2 f (suc n) = pair_long f (pair_of grid1 grid2 f (tally_after grid1 grid2 f n)) (tally_after grid1 grid2 f n) (tally_law grid1 grid2 f n)
+
+-- the law of rounds
+pub round_law : RoundLaw
+round_law grid1 grid2 f t ok =
+    let p = pair_of grid1 grid2 f t in
+    let one = rounded_whole grid1 f.actions1 t.regrets1 ok.regrets1 in
+    let two = rounded_whole grid2 f.actions2 t.regrets2 ok.regrets2 in (
+      one,
+      two,
+      λ I there l d. regret_law p 1 I there d (sums_below grid1 f.actions1 p.table1 I one.2 l d),
+      λ I there l d. regret_law p 2 I there d (sums_below grid2 f.actions2 p.table2 I two.2 l d),
+    )
+
+-- the law of averages
+pub averages_law : AveragesLaw
+averages_law grid1 grid2 f n =
+    let ok = tally_law grid1 grid2 f n in
+    (rounded_whole grid1 f.actions1 (tally_after grid1 grid2 f n).sums1 ok.sums1, rounded_whole grid2 f.actions2 (tally_after grid1 grid2 f n).sums2 ok.sums2)
+
+-- the law of candidates
+pub candidate_law : CandidateLaw
+candidate_law g rule keeper node table bounds rounds (inl e) =
+    subst (λ k. IsWhole (grid_of g k) (span_actions (span_at g k node)) (candidate g rule k node table bounds rounds)) (sym e)
+    (averages_law (grid_of g 1) (grid_of g 2) (gadget_form g rule 1 node table bounds) rounds).0
+candidate_law g rule keeper node table bounds rounds (inr e) =
+    subst (λ k. IsWhole (grid_of g k) (span_actions (span_at g k node)) (candidate g rule k node table bounds rounds)) (sym e)
+    (averages_law (grid_of g 1) (grid_of g 2) (gadget_form g rule 2 node table bounds) rounds).1
+
+-- the law of what is solved
+pub solved_law : SolvedLaw
+solved_law g rounds = averages_law (grid_of g 1) (grid_of g 2) (form_of g) rounds

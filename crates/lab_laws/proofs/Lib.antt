@@ -1,0 +1,6 @@
+pub mod SessionLists
+pub mod SessionSpans
+pub mod SessionWays
+pub mod SessionParts
+pub mod SessionJudging
+pub mod SessionSteps

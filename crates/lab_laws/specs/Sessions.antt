@@ -1,0 +1,2 @@
+-- Laws of sessions.
+use Rattle.std.specs.Prelude.{ℕ}

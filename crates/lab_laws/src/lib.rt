@@ -1,0 +1,4 @@
+//! Laws over the definitions of games, values and sessions: what is promised of the whole.
+#![tactic(auto)]
+
+pub mod sessions;

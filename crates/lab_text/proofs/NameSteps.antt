@@ -1,0 +1,47 @@
+-- Names that are added, and names that stand twice.
+use Rattle.std.proofs.Common.{◌≡◌, ℕ, zero, suc, ◌+◌, ◌<◌, Bool, true, List, [], ◌∷◌, ◌++◌, length, get_or, drop, string_bytes, position, Some, None, Ok, Err, ap, sym, ◌∙◌, arith}
+use Rattle.std.specs.Prelude.{String}
+use Rattle.std.specs.Global.{Global}
+use Rattle.std.specs.List.{list_any}
+use Rattle.std.specs.Str.{bytes_eq}
+use Rattle.std.proofs.lemmas.Bool.{cond-true, cond-false, or_left, or_right}
+use Rattle.std.proofs.lemmas.List.{drop_more}
+use Rattle.std.proofs.lemmas.List.Quantifiers.{position-Some}
+use Rattle.lab_defs_text.specs.Words.{Bytes, stands_in}
+use Rattle.lab_defs_text.specs.Faults.{twice_at}
+use Rattle.lab_defs_text.specs.Drafts.{first_twice, unless_twice}
+use Rattle.lab_lex.proofs.Positions.{list_any-from_None}
+use Rattle.lab_text.specs.Drafts.{name_list}
+
+-- an item that passes a test
+any_at : {X : Type 0} (p : X → Bool) (xs : List X) (i : ℕ) (d : X) → i < length xs → p (get_or xs i d) ≡ true → list_any p xs ≡ true
+any_at p [] i d h e = absurd (omega arith)
+any_at p (x ∷ xs) zero d h e = or_left (p x) (list_any p xs) e
+any_at p (x ∷ xs) (suc i) d h e = or_right (p x) (list_any p xs) (any_at p xs i d (omega arith) e)
+
+-- a name that has a number stands there
+stands_found : (n : Bytes) (ns : List Bytes) (k : ℕ) → position (bytes_eq n) ns ≡ Some k → stands_in n ns ≡ true
+stands_found n ns k e = let r = position-Some (bytes_eq n) ns k [] e in any_at (bytes_eq n) ns k [] r.0 r.1
+
+-- a name that is new is added
+pub new_name : {A : Type 0} (n : Bytes) (ns : List Bytes) (x : A) → position (bytes_eq n) ns ≡ None → unless_twice (stands_in n ns) x ≡ Ok x
+new_name n ns x e = cond-false (stands_in n ns) (Err (twice_at 2)) (Ok x) (list_any-from_None (bytes_eq n) ns e)
+
+-- a name that has a number is not added
+pub old_name : {A : Type 0} (n : Bytes) (ns : List Bytes) (x : A) (k : ℕ) → position (bytes_eq n) ns ≡ Some k → unless_twice (stands_in n ns) x ≡ Err (twice_at 2)
+old_name n ns x k e = cond-true (stands_in n ns) (Err (twice_at 2)) (Ok x) (stands_found n ns k e)
+
+-- the name at a place stands before it
+pub twice_here : (place : ℕ) (before : List Bytes) (ns : List (String Global)) (i : ℕ) (x : String Global) (n : Bytes) (k : ℕ) → i < length ns → x ≡ get_or ns i x → n ≡ string_bytes x
+    → position (bytes_eq n) before ≡ Some k → first_twice place before (name_list (drop i ns)) ≡ place
+twice_here place before ns i x n k h e f p =
+    ap (λ (ys : List (String Global)). first_twice place before (name_list ys)) (drop_more ns i x h ∙ ap (λ (y : String Global). y ∷ drop (i + 1) ns) (sym e))
+    ∙ cond-true (stands_in (string_bytes x) before) place (first_twice (place + 1) (before ++ string_bytes x ∷ []) (name_list (drop (i + 1) ns))) (ap (λ (m : Bytes). stands_in m before) (sym f) ∙ stands_found n before k p)
+
+-- the name at a place is new
+pub twice_later : (place : ℕ) (before after : List Bytes) (ns : List (String Global)) (i : ℕ) (x : String Global) (n : Bytes) → i < length ns → x ≡ get_or ns i x → n ≡ string_bytes x
+    → position (bytes_eq n) before ≡ None → after ≡ before ++ n ∷ [] → first_twice (place + 1) after (name_list (drop (i + 1) ns)) ≡ first_twice place before (name_list (drop i ns))
+twice_later place before after ns i x n h e f p a =
+    ap (λ (bs : List Bytes). first_twice (place + 1) bs (name_list (drop (i + 1) ns))) (a ∙ ap (λ (m : Bytes). before ++ m ∷ []) f)
+    ∙ sym (ap (λ (ys : List (String Global)). first_twice place before (name_list ys)) (drop_more ns i x h ∙ ap (λ (y : String Global). y ∷ drop (i + 1) ns) (sym e))
+    ∙ cond-false (stands_in (string_bytes x) before) place (first_twice (place + 1) (before ++ string_bytes x ∷ []) (name_list (drop (i + 1) ns))) (ap (λ (m : Bytes). stands_in m before) (sym f) ∙ list_any-from_None (bytes_eq n) before p))

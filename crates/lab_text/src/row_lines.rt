@@ -1,0 +1,119 @@
+//! Lines inside a world: its actions, its rows and their outcomes.
+ghost use Rattle.std.specs.Prelude.{◌≡◌, ◌+◌, ◌<◌, ◌^◌, length};
+ghost use Rattle.lab_defs_text.specs.Agreement.{Agrees};
+ghost use Rattle.lab_defs_text.specs.Reading.{rest_at, one_kind, two_kind, row_kind, to_kind};
+ghost use Rattle.lab_text.specs.Faults.{line_fault};
+ghost use Rattle.lab_text.specs.Drafts.{draft_is, applied, pieces, name_list, actions_at, KeepsNames};
+
+use crate::draft::{Draft, OpenRow};
+use crate::draft_steps::{twice_place, whole_row};
+use crate::line_fault::LineFault;
+use crate::line_kind::LineKind;
+use crate::line_words::{five, name_in, names_in, number_in, two};
+use lab_world::PartOutcome;
+use std::alloc::Global;
+use std::mem;
+
+/// The line of seat 1's actions.
+pub fn one_line(
+    alloc: Global,
+    draft: &mut Draft,
+    last: LineKind,
+    line: u32,
+    rest: &[&[u8]],
+) -> Result<(), LineFault>
+    requires { length rest.now + 1 < 2 ^ 32 }
+    ensures line { Agrees (λ _. draft_is draft.new) line_fault result (applied line last draft.old (rest_at one_kind (pieces rest.now))) }
+    ensures names { KeepsNames draft.old draft.new }
+{
+    draft.open_world.one = actions_in(alloc, rest)?;
+    Ok(())
+}
+
+/// The line of seat 2's actions.
+pub fn two_line(
+    alloc: Global,
+    draft: &mut Draft,
+    last: LineKind,
+    line: u32,
+    rest: &[&[u8]],
+) -> Result<(), LineFault>
+    requires { length rest.now + 1 < 2 ^ 32 }
+    ensures line { Agrees (λ _. draft_is draft.new) line_fault result (applied line last draft.old (rest_at two_kind (pieces rest.now))) }
+    ensures names { KeepsNames draft.old draft.new }
+{
+    draft.open_world.two = actions_in(alloc, rest)?;
+    Ok(())
+}
+
+// The names of actions behind the first word, each of which is new.
+fn actions_in(alloc: Global, rest: &[&[u8]]) -> Result<Vec<String>, LineFault>
+    requires { length rest.now + 1 < 2 ^ 32 }
+    ensures { Agrees (λ v. name_list v.items) line_fault result (actions_at (pieces rest.now)) }
+{
+    if rest.is_empty() {
+        return Err(LineFault::BadWord { place: 2 });
+    }
+    let names = names_in(alloc, rest)?;
+    let place = twice_place(alloc, &names)?;
+    if place != 0 {
+        return Err(LineFault::Twice { place });
+    }
+    Ok(names)
+}
+
+/// The line that begins a row.
+pub fn row_line(
+    alloc: Global,
+    draft: &mut Draft,
+    last: LineKind,
+    line: u32,
+    rest: &[&[u8]],
+) -> Result<(), LineFault>
+    ensures line { Agrees (λ _. draft_is draft.new) line_fault result (applied line last draft.old (rest_at row_kind (pieces rest.now))) }
+    ensures names { KeepsNames draft.old draft.new }
+{
+    let (first, second) = two(rest)?;
+    let first = name_in(first, 2)?;
+    let second = name_in(second, 3)?;
+    let row = OpenRow {
+        line,
+        first: String::from_str(alloc, first)?,
+        second: String::from_str(alloc, second)?,
+        outcomes: Vec::new(alloc),
+    };
+    let whole = mem::replace(&mut draft.open_row, row);
+    if last == LineKind::To {
+        draft.open_world.rows.push(whole_row(whole))?;
+    }
+    Ok(())
+}
+
+/// The line of an outcome.
+pub fn outcome_line(
+    alloc: Global,
+    draft: &mut Draft,
+    last: LineKind,
+    line: u32,
+    rest: &[&[u8]],
+) -> Result<(), LineFault>
+    ensures line { Agrees (λ _. draft_is draft.new) line_fault result (applied line last draft.old (rest_at to_kind (pieces rest.now))) }
+    ensures names { KeepsNames draft.old draft.new }
+{
+    let (weight, next, own1, own2, public) = five(rest)?;
+    let weight = number_in(weight, 2, 1, 1_048_576)?;
+    let next = name_in(next, 3)?;
+    let own1 = name_in(own1, 4)?;
+    let own2 = name_in(own2, 5)?;
+    let public = name_in(public, 6)?;
+    let outcome = PartOutcome {
+        line,
+        weight,
+        next: String::from_str(alloc, next)?,
+        own1: String::from_str(alloc, own1)?,
+        own2: String::from_str(alloc, own2)?,
+        public: String::from_str(alloc, public)?,
+    };
+    draft.open_row.outcomes.push(outcome)?;
+    Ok(())
+}
