@@ -1,6 +1,6 @@
 -- The lines of a game that are collected from a source, and what stops them.
-use Rattle.std.proofs.Common.{◌≡◌, ℕ, ◌+◌, ◌-◌, ◌≤◌, ◌<◌, Bool, true, false, List, [], ◌∷◌, ◌++◌, length, Option, Some, None, Result, Ok, Err, IfOk, IfErr, refl, sym, ap, ◌∙◌, subst, arith, length-append, append_assoc, append-nil}
-use Rattle.std.specs.Prelude.{IsTrue, if◌then◌else◌}
+use Rattle.std.proofs.Common.{◌≡◌, ℕ, ◌+◌, ◌-◌, ◌≤◌, Bool, true, false, [], ◌∷◌, ◌++◌, length, Option, Result, Ok, Err, IfOk, IfErr, refl, sym, ap, ◌∙◌, subst, arith, length-append, append_assoc}
+use Rattle.std.specs.Prelude.{IsTrue}
 use Rattle.std.specs.Str.{bytes_eq}
 use Rattle.std.specs.Io.KnownBytes.{Consumes, IsAtEnd}
 use lib.Chars.{codes}
@@ -12,12 +12,12 @@ use Rattle.lab_io.proofs.Fronts.{Consumes-append}
 use Rattle.lab_io.proofs.Givings.{Takes-append, Takes-all, Takes-none}
 use Rattle.lab_defs_text.specs.Words.{Bytes, lines}
 use Rattle.lab_defs_report.specs.Refusals.{Refusal, refused}
-use Rattle.lab_defs_report.specs.Cuts.{game_limit, Cut, cut_at, cut_refused, cut_from}
+use Rattle.lab_defs_report.specs.Cuts.{game_limit, cut_at, cut_refused, cut_from}
 use Rattle.lab_defs_report.specs.Modes.{cut}
 use Rattle.lab_cli.specs.declared.stop.Stop.{Stop}
 use Rattle.lab_cli.specs.declared.stop.Stop.TheVariants as stop
 use Rattle.lab_cli.specs.Stops.{IsRefusal, Advances}
-use Rattle.lab_cli.specs.GameParts.{IsGamePart, IsCutOff, CutsOff}
+use Rattle.lab_cli.specs.GameParts.{IsGamePart, CutsOff}
 use Rattle.lab_cli.specs.CutLines.{RefusesCut}
 use Rattle.lab_cli.proofs.LineCuts.{line_cut, ends_short, ends_inside, too_long_line, too_much}
 
@@ -41,8 +41,8 @@ pub collected_more : (old left new : Option Bytes) (ahead rest text line : Bytes
 collected_more old left new ahead rest text line n c t whole h other = record {
   takes = Takes-append c.takes t;
   cuts = λ ended y.
-    ap (cut ended) (append_assoc text (line ++ 10 ∷ []) y ∙ ap (λ x. text ++ x) (append_assoc line (10 ∷ []) y)) ∙ c.cuts ended (line ++ 10 ∷ y)
-    ∙ line_cut ended n text line y whole h ∙ (rw other refl) ∙ ap (λ t. cut_from ended (n + 1) t (lines y)) (append_assoc text line (10 ∷ []));
+      ap (cut ended) (append_assoc text (line ++ 10 ∷ []) y ∙ ap (λ x. text ++ x) (append_assoc line (10 ∷ []) y)) ∙ c.cuts ended (line ++ 10 ∷ y)
+      ∙ line_cut ended n text line y whole h ∙ (rw other refl) ∙ ap (λ t. cut_from ended (n + 1) t (lines y)) (append_assoc text line (10 ∷ []));
   few = omega (arith, c.few, length-append text (line ++ 10 ∷ []), length-append line (10 ∷ []));
 }
 

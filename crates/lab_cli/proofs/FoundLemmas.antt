@@ -1,8 +1,8 @@
 -- What is known of the bytes that were taken from a source, by what was found in them.
-use Rattle.std.proofs.Common.{◌≡◌, ◌≢◌, ℕ, ◌+◌, ◌-◌, ◌≤◌, ◌<◌, Bool, true, false, cond, List, [], ◌∷◌, ◌++◌, length, Option, Some, None, Result, Ok, Err, refl, sym, ap, ◌∙◌, subst, arith, length-append, append_assoc, append-nil}
-use Rattle.std.specs.Prelude.{IsTrue, not, ◌==◌}
+use Rattle.std.proofs.Common.{◌≡◌, ◌≢◌, ℕ, ◌+◌, ◌<◌, Bool, true, false, cond, List, [], ◌∷◌, ◌++◌, length, Option, Some, Result, Ok, Err, refl, sym, ap, ◌∙◌, subst, arith}
+use Rattle.std.specs.Prelude.{IsTrue, ◌==◌}
 use Rattle.std.specs.Global.{Vec}
-use Rattle.std.specs.List.{join_with_byte, onto_first}
+use Rattle.std.specs.List.{onto_first}
 use Rattle.std.specs.Io.KnownBytes.{Consumes, IsAtEnd}
 use Rattle.std.proofs.lemmas.Bool.{lt-ltb}
 use Rattle.std.proofs.lemmas.List.Splits.{join_with_byte-slice_split}
@@ -10,7 +10,6 @@ use Rattle.std.specs.Result.{IsErr, IsErrAnd}
 use lib.Chars.{codes}
 use Rattle.lab_io.specs.Reading.{Takes, StoppedAfter, LineStop, RestStop, IsEnd}
 use Rattle.lab_io.specs.declared.line_reader.ReadStop.TheVariants as read
-use Rattle.lab_io.proofs.Fronts.{Consumes-append}
 use Rattle.lab_io.proofs.Givings.{Takes-append, Takes-all}
 use Rattle.lab_defs_text.specs.Words.{Bytes, lines}
 use Rattle.lab_defs_text.specs.Games.{GameModel}
@@ -18,17 +17,16 @@ use Rattle.lab_defs_text.specs.Texts.{canonical}
 use Rattle.lab_defs_report.specs.Plain.{is_plain}
 use Rattle.lab_defs_report.specs.Refusals.{Refusal, refused}
 use Rattle.lab_defs_report.specs.Answers.{Answer, answer, refusing}
-use Rattle.lab_defs_report.specs.Cuts.{commands_limit, Cut, cut_at, cut_refused, goes_on}
+use Rattle.lab_defs_report.specs.Cuts.{commands_limit, cut_at, cut_refused, goes_on}
 use Rattle.lab_defs_report.specs.GameModes.{read_text}
 use Rattle.lab_defs_report.specs.Modes.{Mode, session, print, cut}
 use Rattle.lab_defs_report.specs.Reports.{built_answer, commands_answer, taken_game, taken_at, session_answer, not_built}
 use Rattle.lab_defs_report.proofs.CutLemmas.{cut_goes_on, lines_append, lines_some, none_continued}
-use Rattle.lab_world.specs.declared.game.Game.{Game}
 use Rattle.lab_world.specs.Games.{game_model}
 use Rattle.lab_cli.specs.declared.stop.Stop.{Stop}
 use Rattle.lab_cli.specs.declared.stop.Stop.TheVariants as stop
 use Rattle.lab_cli.specs.Stops.{IsRefusal, Gives, Says, Found}
-use Rattle.lab_cli.specs.GameParts.{IsGamePart, IsCutOff, CutsOff, NotEnded, NotAll}
+use Rattle.lab_cli.specs.GameParts.{IsGamePart, CutsOff, NotEnded, NotAll}
 use Rattle.lab_cli.proofs.Collecting.{stopped_bytes}
 
 -- an input that is refused by the cut, or by its text, is refused in this mode
@@ -55,9 +53,13 @@ session_refuses = record { by_cut = λ ended input r e. rw e refl; by_text = λ 
 says_refused : (F : Type 0) (m : Mode) (old new : Option Bytes) (taken : Bytes) (ended : Bool) (r : Refusal) (s : Stop) → Consumes old new taken → (IsTrue ended → IsAtEnd new)
     → built_answer ended taken (Some m) ≡ refusing r → IsRefusal r s → Says F (Found (Some m) old new) (Err s)
 says_refused F m old new taken ended r (stop.Refused out) c e k h = record {
-  taken = taken; consumed = c; ended = ended; at_end = e;
+  taken = taken;
+  consumed = c;
+  ended = ended;
+  at_end = e;
   same = k ∙ ap (λ o. record { out = o; refuses = true }) (sym h);
-  early = λ _. refl }
+  early = λ _. refl;
+}
 says_refused F m old new taken ended r stop.ReadFault c e k h = absurd h
 says_refused F m old new taken ended r stop.Memory c e k h = tt
 
@@ -137,9 +139,13 @@ pub found_printed : (old : Option Bytes) (ahead : Bytes) (left : Option Bytes) (
     → read_text text ≡ Ok g → Takes ahead left rest new [] → IsEnd ahead rest new → out ≡ canonical g → Found (Some print) old new (answer out)
 found_printed old ahead left rest new text n g out part t u e h =
     record {
-      taken = text ++ []; consumed = all_taken old ahead left rest new text [] part.takes u e.none_now; ended = true; at_end = λ _. e.at_end;
+      taken = text ++ [];
+      consumed = all_taken old ahead left rest new text [] part.takes u e.none_now;
+      ended = true;
+      at_end = λ _. e.at_end;
       same = rw (cut_behind old ahead left text n part true [], t, h) refl;
-      early = λ x. absurd cc }
+      early = λ x. absurd cc;
+    }
 
 -- ---- the mode `session`
 
@@ -172,9 +178,13 @@ says_answered F old ahead left rest new text behind n g r part t p u e none h = 
   where
     found : (a : Answer) → a ≡ commands_answer true n g (lines behind) → Found (Some session) old new a
     found a same = record {
-      taken = text ++ behind; consumed = all_taken old ahead left rest new text behind part.takes u none; ended = true; at_end = λ _. e;
+      taken = text ++ behind;
+      consumed = all_taken old ahead left rest new text behind part.takes u none;
+      ended = true;
+      at_end = λ _. e;
       same = rw (cut_behind old ahead left text n part true behind, session_answer, taken_plain text n g t p) (sym same);
-      early = λ x. absurd cc }
+      early = λ x. absurd cc;
+    }
 
     by_result : (r : Result (Vec ℕ) Stop) → Says ⊥ (λ a. a ≡ commands_answer true n g (lines behind)) r → Says F (Found (Some session) old new) r
     by_result (Ok out) h = found (answer out.items) h

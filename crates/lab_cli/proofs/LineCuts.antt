@@ -1,8 +1,7 @@
 -- The lines of a game cut one after another, and what cuts them off.
-use Rattle.std.proofs.Common.{◌≡◌, ◌≢◌, ℕ, ◌+◌, ◌-◌, ◌≤◌, ◌<◌, Bool, true, false, cond, List, [], ◌∷◌, ◌++◌, length, take, drop, slice_index, Some, None, refl, sym, ap, ◌∙◌, subst, arith, length-append, append_assoc}
+use Rattle.std.proofs.Common.{◌≡◌, ◌≢◌, ℕ, ◌+◌, ◌-◌, ◌≤◌, ◌<◌, Bool, true, false, [], ◌∷◌, ◌++◌, length, take, drop, slice_index, Some, None, refl, sym, ap, ◌∙◌, subst, arith}
 use Rattle.std.specs.Prelude.{◌==◌, not, if◌then◌else◌}
 use Rattle.std.specs.Str.{bytes_eq}
-use Rattle.std.specs.List.{list_all}
 use Rattle.std.proofs.lemmas.Bool.{and_parts, not-true, eqb-true}
 use Rattle.std.proofs.lemmas.Bool.Decides.{nat_tests}
 use Rattle.std.proofs.lemmas.List.{take-append-drop, length-take-le, drop_more, take_more}
@@ -10,7 +9,6 @@ use Rattle.std.proofs.lemmas.List.Folds.{list_all-append}
 use lib.Chars.{codes}
 use Rattle.lab_io.specs.Reading.{no_feed, IsLine, PassesLimit, PassesAllowance}
 use Rattle.lab_io.specs.declared.line_reader.TheConstants.{LINE_LIMIT}
-use Rattle.lab_io.proofs.Feeds.{no_feed-take}
 use Rattle.lab_defs_text.specs.Words.{Bytes, lines}
 use Rattle.lab_defs_report.specs.Refusals.{refused}
 use Rattle.lab_defs_report.specs.Cuts.{line_limit, game_limit, passed_limit, cut_at, cut_refused, cut_from}
@@ -79,19 +77,22 @@ too_much n text bytes p =
     let size : length (take a bytes) ≡ a = length-take-le a bytes (omega (arith, p.long)) in
     let parts : bytes ≡ take a bytes ++ (slice_index bytes a ∷ drop (a + 1) bytes) = sym (ap (λ x. take a bytes ++ x) (sym (drop_more bytes a 0 p.long)) ∙ take-append-drop a bytes) in
     let feed : slice_index bytes a ≡ 10 → cut_from false n text (lines bytes) ≡ cut_refused (refused n (codes "GameTooLong") []) = λ e.
-        ap (λ x. cut_from false n text (lines x)) (parts ∙ ap (λ c. take a bytes ++ (c ∷ drop (a + 1) bytes)) e)
-        ∙ (rw (first_line (take a bytes) (drop (a + 1) bytes) p.unended, cut_more false n text (take a bytes) (lines (drop (a + 1) bytes)) (lines_some (drop (a + 1) bytes)),
-             allowance_passed (codes "GameTooLong") a (length (take a bytes)) 1 (omega (arith, size, p.reached)) (omega (arith, size))) refl) in
+    ap (λ x. cut_from false n text (lines x)) (parts ∙ ap (λ c. take a bytes ++ (c ∷ drop (a + 1) bytes)) e)
+    ∙ (rw (
+      first_line (take a bytes) (drop (a + 1) bytes) p.unended,
+      cut_more false n text (take a bytes) (lines (drop (a + 1) bytes)) (lines_some (drop (a + 1) bytes)),
+      allowance_passed (codes "GameTooLong") a (length (take a bytes)) 1 (omega (arith, size, p.reached)) (omega (arith, size)),
+    ) refl) in
     let inside : (slice_index bytes a == 10) ≡ false → cut_from false n text (lines bytes) ≡ cut_refused (refused n (codes "GameTooLong") []) = λ e.
-        let front : take (a + 1) bytes ≡ take a bytes ++ (slice_index bytes a ∷ []) = take_more bytes a 0 p.long in
-        let long : length (take (a + 1) bytes) ≡ a + 1 = length-take-le (a + 1) bytes (omega (arith, p.long)) in
-        let below : a < LINE_LIMIT = omega (arith, p.reached, not_at_limit a bytes p.at_limit e) in
-        let none : no_feed (take (a + 1) bytes) ≡ true = rw (front, list_all-append (λ c. not (c == 10)) (take a bytes) (slice_index bytes a ∷ []), p.unended, e) refl in
-        refused_front n text bytes (a + 1) (codes "GameTooLong")
-        (rw (one_line (take (a + 1) bytes) none, allowance_passed (codes "GameTooLong") a (length (take (a + 1) bytes)) 0 (omega (arith, long, below)) (omega (arith, long))) refl) in
+    let front : take (a + 1) bytes ≡ take a bytes ++ (slice_index bytes a ∷ []) = take_more bytes a 0 p.long in
+    let long : length (take (a + 1) bytes) ≡ a + 1 = length-take-le (a + 1) bytes (omega (arith, p.long)) in
+    let below : a < LINE_LIMIT = omega (arith, p.reached, not_at_limit a bytes p.at_limit e) in
+    let none : no_feed (take (a + 1) bytes) ≡ true = rw (front, list_all-append (λ c. not (c == 10)) (take a bytes) (slice_index bytes a ∷ []), p.unended, e) refl in
+    refused_front n text bytes (a + 1) (codes "GameTooLong")
+    (rw (one_line (take (a + 1) bytes) none, allowance_passed (codes "GameTooLong") a (length (take (a + 1) bytes)) 0 (omega (arith, long, below)) (omega (arith, long))) refl) in
     let at : (b : Bool) → (slice_index bytes a == 10) ≡ b → cut_from false n text (lines bytes) ≡ cut_refused (refused n (codes "GameTooLong") []) =
-        λ b. elim b as (λ b. (slice_index bytes a == 10) ≡ b → cut_from false n text (lines bytes) ≡ cut_refused (refused n (codes "GameTooLong") [])) [
-          | true ↦ λ e. feed (eqb-true (slice_index bytes a) 10 e)
-          | false ↦ λ e. inside e
-        ] in
+    λ b. elim b as (λ b. (slice_index bytes a == 10) ≡ b → cut_from false n text (lines bytes) ≡ cut_refused (refused n (codes "GameTooLong") [])) [
+      | true ↦ λ e. feed (eqb-true (slice_index bytes a) 10 e)
+      | false ↦ λ e. inside e
+    ] in
     at (slice_index bytes a == 10) refl

@@ -1,7 +1,7 @@
 -- Refusals as the program writes them.
-use Rattle.std.proofs.Common.{◌≡◌, ℕ, ◌-◌, List, [], ◌∷◌, ◌++◌, Option, Some, None, Result, Ok, Err, Bool, true, false, refl, sym, ap, ◌∙◌, subst, append_assoc}
+use Rattle.std.proofs.Common.{◌≡◌, ℕ, [], ◌∷◌, ◌++◌, Option, Some, None, Result, Ok, Err, true, false, refl, sym, ap, ◌∙◌, subst, append_assoc}
 use lib.Chars.{codes}
-use Rattle.lab_defs_text.specs.Agreement.{FaultAgrees, Agrees}
+use Rattle.lab_defs_text.specs.Agreement.{FaultAgrees}
 use Rattle.lab_defs_text.specs.Words.{Bytes}
 use Rattle.lab_defs_text.specs.Lines.{joined}
 use Rattle.lab_defs_text.specs.Games.{GameModel}
@@ -9,7 +9,7 @@ use Rattle.lab_defs_text.specs.Faults.{TextFault, LineFault}
 use Rattle.lab_defs_report.specs.Commands as model
 use Rattle.lab_defs_report.specs.Commands.{Command}
 use Rattle.lab_defs_report.specs.States.{uniform_reply}
-use Rattle.lab_defs_report.specs.Refusals.{Refusal, refused_text, refused_in_line, refusal_line}
+use Rattle.lab_defs_report.specs.Refusals.{Refusal, refused_text, refused_in_line}
 use Rattle.lab_defs_report.specs.Reports.{reply_at, reply_of, not_built}
 use Rattle.lab_world.specs.Games.{game_model}
 use Rattle.lab_cli.specs.declared.stop.Stop.{Stop}

@@ -1,6 +1,6 @@
 -- The replies to command lines, one after another.
-use Rattle.std.proofs.Common.{◌≡◌, ◌≢◌, ℕ, ◌+◌, ◌≤◌, Bool, true, false, List, [], ◌∷◌, ◌++◌, length, Option, Some, None, Result, Ok, Err, refl, sym, ap, ◌∙◌, subst, arith, append_assoc, append-nil}
-use Rattle.std.specs.Prelude.{◌==◌, ◌||◌, nat_lt}
+use Rattle.std.proofs.Common.{◌≡◌, ◌≢◌, ℕ, ◌+◌, ◌≤◌, true, false, List, [], ◌∷◌, ◌++◌, length, Result, Ok, Err, refl, sym, ap, ◌∙◌, subst, arith, append_assoc}
+use Rattle.std.specs.Prelude.{◌==◌, nat_lt}
 use Rattle.std.specs.Global.{Vec}
 use Rattle.std.specs.List.{list_any}
 use Rattle.std.proofs.lemmas.Bool.Decides.{nat_tests}
@@ -10,7 +10,7 @@ use lib.Chars.{codes}
 use Rattle.lab_defs_text.specs.Words.{Bytes, lines}
 use Rattle.lab_defs_text.specs.Games.{GameModel}
 use Rattle.lab_defs_report.specs.Refusals.{Refusal, refused}
-use Rattle.lab_defs_report.specs.Answers.{Answer, answer, refusing, following}
+use Rattle.lab_defs_report.specs.Answers.{Answer, refusing, following}
 use Rattle.lab_defs_report.specs.Sessions.{last_answer}
 use Rattle.lab_defs_report.specs.Cuts.{line_limit, commands_limit}
 use Rattle.lab_defs_report.specs.Reports.{replies_from, reply_at, commands_answer, is_too_long, not_built}

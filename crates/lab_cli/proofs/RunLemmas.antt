@@ -1,11 +1,11 @@
 -- What a run tells, by how it ended.
-use Rattle.std.proofs.Common.{◌≡◌, ◌≢◌, ℕ, Bool, true, false, List, [], ◌∷◌, ◌++◌, Option, None, Some, IfSome, is_some, Result, Ok, Err, refl, sym, ap, subst, ◌∙◌, append-nil, inl, inr, ◌⊎◌}
+use Rattle.std.proofs.Common.{◌≡◌, ◌≢◌, ℕ, Bool, true, false, List, [], ◌∷◌, ◌++◌, Option, None, Some, IfSome, Result, Ok, Err, refl, sym, ap, subst, ◌∙◌, append-nil, inl, inr, ◌⊎◌}
 use Rattle.std.specs.Prelude.{IsTrue, not}
 use Rattle.std.specs.Global.{Vec}
-use Rattle.std.specs.Io.KnownBytes.{Appends, Consumes, IsAtEnd}
+use Rattle.std.specs.Io.KnownBytes.{Appends}
 use Rattle.lab_io.specs.Causes.{Rose}
 use Rattle.lab_defs_text.specs.Words.{Bytes}
-use Rattle.lab_defs_report.specs.Answers.{Answer, answer, silent}
+use Rattle.lab_defs_report.specs.Answers.{Answer, answer}
 use Rattle.lab_defs_report.specs.Modes.{Mode, usage_line}
 use Rattle.lab_defs_report.specs.Laws.{IsFront}
 use Rattle.lab_defs_report.specs.Reports.{built_answer, built_mode, report_of, replies_of, is_refused}

@@ -1,5 +1,5 @@
 -- What is written piece by piece.
-use Rattle.std.proofs.Common.{◌≡◌, ℕ, zero, suc, ◌+◌, ◌-◌, ◌<◌, [], ◌++◌, length, take, drop, Option, None, Some, Result, Ok, Err, OnErr, refl, sym, ap, ◌∙◌, arith, append_assoc, append-nil, length-append, subst, inl, inr}
+use Rattle.std.proofs.Common.{ℕ, [], take, drop, Option, None, Some, Ok, Err, refl, sym, arith, append-nil, inl, inr}
 use Rattle.std.specs.Io.KnownBytes.{Appends}
 use Rattle.lab_io.specs.Causes.{AppendsFront, HasCause}
 use Rattle.lab_defs_text.specs.Words.{Bytes}
@@ -7,8 +7,7 @@ use Rattle.lab_cli.specs.declared.status.Status.{Status}
 use Rattle.lab_cli.specs.declared.status.Status.TheVariants.{Memory, WriteFault}
 use Rattle.lab_defs_report.specs.Laws.{IsFront}
 use Rattle.lab_cli.specs.Writes.{Writes}
-use Rattle.std.proofs.lemmas.List.{take-append-drop, take-append-le}
-use Rattle.std.proofs.Math.Seq.{take-append-add}
+use Rattle.std.proofs.lemmas.List.{take-append-drop}
 
 -- nothing was written
 pub appends_nothing : (a : Option Bytes) → Appends a a []

@@ -1,9 +1,8 @@
 -- Why a line of a game was not read.
-use Rattle.std.specs.Prelude.{◌≡◌, ℕ, [], Option, Some, None}
+use Rattle.std.specs.Prelude.{◌≡◌, ℕ, []}
 use lib.Chars.{codes}
 use Rattle.lab_io.specs.declared.line_reader.ReadStop.{ReadStop}
 use Rattle.lab_io.specs.declared.line_reader.ReadStop.TheVariants as read
-use Rattle.lab_defs_text.specs.Words.{Bytes}
 use Rattle.lab_defs_report.specs.Refusals.{refused}
 use Rattle.lab_cli.specs.declared.stop.Stop.{Stop}
 use Rattle.lab_cli.specs.declared.stop.Stop.TheVariants.{ReadFault, Memory}

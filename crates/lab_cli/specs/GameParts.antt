@@ -1,5 +1,5 @@
 -- The lines of a game, read from a source.
-use Rattle.std.specs.Prelude.{◌≡◌, ◌≤◌, ◌<◌, ◌+◌, ◌++◌, ℕ, List, [], ◌∷◌, length, Option, Result, Ok, Err, Bool, false, IsTrue, ⊤}
+use Rattle.std.specs.Prelude.{◌≡◌, ◌≤◌, ◌<◌, ◌+◌, ◌++◌, ℕ, [], ◌∷◌, length, Option, Bool, false, IsTrue, ⊤}
 use Rattle.std.specs.Io.KnownBytes.{Consumes, IsAtEnd}
 use Rattle.lab_io.specs.Reading.{Takes}
 use Rattle.lab_defs_text.specs.Words.{Bytes}
@@ -8,7 +8,6 @@ use Rattle.lab_defs_report.specs.Cuts.{game_limit, commands_limit, cut_at, cut_r
 use Rattle.lab_defs_report.specs.Modes.{cut}
 use Rattle.lab_defs_report.specs.Reports.{not_built}
 use lib.Chars.{codes}
-use Rattle.lab_cli.specs.declared.game_part.GamePart.{GamePart}
 use Rattle.lab_cli.specs.declared.stop.Stop.{Stop}
 use Rattle.lab_cli.specs.declared.stop.Stop.TheVariants.{Refused, ReadFault, Memory}
 

@@ -1,17 +1,13 @@
 -- What the answers of the program say, beside those of the definitions.
-use Rattle.std.specs.Prelude.{◌≡◌, ℕ, List, [], ◌∷◌, ◌++◌, Option, Some, None, Result, Ok, Err, Bool, true, false, not, IsTrue, ⊤}
+use Rattle.std.specs.Prelude.{◌≡◌, ℕ, ◌++◌, Option, Some, None, Result, Ok, Err, Bool, true, not, IsTrue, ⊤}
 use Rattle.std.specs.Global.{Vec}
 use Rattle.std.specs.Io.KnownBytes.{Consumes, IsAtEnd}
 use Rattle.lab_defs_text.specs.Words.{Bytes}
-use Rattle.lab_defs_text.specs.Games.{GameModel}
 use Rattle.lab_defs_text.specs.Faults.{LineFault, TextFault}
 use Rattle.lab_defs_report.specs.Refusals.{Refusal, refusal_line, refused_text, refused_in_line}
 use Rattle.lab_defs_report.specs.Answers.{Answer, answer}
-use Rattle.lab_defs_report.specs.Cuts.{cut_refused}
-use Rattle.lab_defs_report.specs.Modes.{Mode, cut}
+use Rattle.lab_defs_report.specs.Modes.{Mode}
 use Rattle.lab_defs_report.specs.Reports.{built_answer}
-use Rattle.lab_world.specs.declared.game.Game.{Game}
-use Rattle.lab_world.specs.Games.{game_model}
 use Rattle.lab_cli.specs.declared.stop.Stop.{Stop}
 use Rattle.lab_cli.specs.declared.stop.Stop.TheVariants.{Refused, ReadFault, Memory}
 

@@ -27,13 +27,19 @@ pub fn is_plain(game: &Game) -> bool
 fn worlds(places: &[Place]) -> usize
     ensures { (actions : List Bytes) → result ≡ count_by stands_world (map (place_model actions) places.now) }
 {
-    places.iter().filter(|place| matches!(place, Place::World(_))).count()
+    places
+        .iter()
+        .filter(|place| matches!(place, Place::World(_)))
+        .count()
 }
 
 fn all_plain(game: &Game) -> bool
     ensures { result ≡ list_all (λ p. place_is_plain (game_model game.now) (place_model game.now.actions p)) game.now.places }
 {
-    game.places.as_slice().iter().all(|place| is_plain_place(game, place))
+    game.places
+        .as_slice()
+        .iter()
+        .all(|place| is_plain_place(game, place))
 }
 
 // Whether a place is an end, or a world with fewer than 65,536 rows, each of which ends at once.
@@ -75,5 +81,8 @@ fn ends_at_once(game: &Game, row: &Row) -> bool
 fn is_world(game: &Game, place: WorldId) -> bool
     ensures { result ≡ stands_world (place_at (game_model game.now) place.0) }
 {
-    matches!(game.places.as_slice().get(place.0 as usize), Some(Place::World(_)))
+    matches!(
+        game.places.as_slice().get(place.0 as usize),
+        Some(Place::World(_))
+    )
 }

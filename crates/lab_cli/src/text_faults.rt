@@ -69,5 +69,9 @@ fn listed_action(text: &[u8], line: u64, number: u32) -> &[u8]
     requires { 0 < line }
     ensures { result.now ≡ action_listed text.now line number }
 {
-    piece(piece(text, b'\n', (line - 1) as usize), b' ', number as usize + 1)
+    piece(
+        piece(text, b'\n', (line - 1) as usize),
+        b' ',
+        number as usize + 1,
+    )
 }

@@ -183,7 +183,7 @@ fn answers_refusals_and_faults(rt: HostRuntime) -> Result<(), Fail> {
             "refused 6 CutShort\n",
             Status::Refused,
         ),
-        session(FORK, "expect uniform\n", "refused 37 NotBuilt\n", Status::Refused),
+        session(FORK, "expect uniform\n", "refused 36 NotBuilt\n", Status::Refused),
         session(PENNIES_2, "bound 1\n", "refused 21 NotBuilt\n", Status::Refused),
         session(
             PENNIES_2,

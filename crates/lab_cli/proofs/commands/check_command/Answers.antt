@@ -1,4 +1,4 @@
-use Rattle.std.proofs.Common.{◌≡◌, ◌++◌, ◌∷◌, [], sym, subst}
+use Rattle.std.proofs.Common.{◌++◌, ◌∷◌, [], sym, subst}
 use Rattle.lab_defs_text.specs.Lines.{joined}
 use Rattle.lab_defs_report.specs.States.{uniform_reply}
 use Rattle.lab_commands.specs.Commands.{command_model}

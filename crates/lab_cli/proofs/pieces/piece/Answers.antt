@@ -1,4 +1,4 @@
-use Rattle.std.proofs.Common.{◌≡◌, ◌-◌, ◌+◌, [], slice_index_or, sym, ap, ◌∙◌, arith}
+use Rattle.std.proofs.Common.{◌∙◌}
 use Rattle.lab_cli.proofs.PieceLemmas.{piece_behind}
 use Rattle.lab_cli.proofs.pieces.piece.Goals as goal
 

@@ -1,4 +1,4 @@
-use Rattle.std.proofs.Common.{◌≡◌, Some, Err, sym, ap, ◌∙◌, subst, arith}
+use Rattle.std.proofs.Common.{Some, Err, sym, ap, ◌∙◌, subst}
 use Rattle.lab_defs_report.specs.GameModes.{read_text}
 use Rattle.lab_defs_report.specs.Modes.{print}
 use Rattle.lab_world.specs.Games.{game_model}
@@ -16,13 +16,13 @@ pub returns-in_err-game-clause-says : goal.returns-in_err-game-clause-says
 returns-in_err-game-clause-says g c =
     says_passed (Rose (g.S.Source.faults c.args.source.now) (g.S.Source.faults c.read.new.source)) (Found (Some print) (g.S.Source.left c.args.source.now) (g.S.Source.left c.read.new.source)) c.in_err-game.field-0.0 _ c.from_residual-in_err-game.ensures
     (says_text (Rose (g.S.Source.faults c.args.source.now) (g.S.Source.faults c.read.new.source)) print (g.S.Source.left c.args.source.now) c.read.new.reader.ahead (g.S.Source.left c.read.new.source) c.in_ok-part.part.text.items c.in_ok-part.part.done c.in_err-game.field-0.0 print_refuses
-     c.in_ok-part.ensures.part (subst (λ t. Gives game_model (read_text t) (Err c.in_err-game.field-0.0)) c.as_slice.ensures.value c.in_err-game.ensures))
+    c.in_ok-part.ensures.part (subst (λ t. Gives game_model (read_text t) (Err c.in_err-game.field-0.0)) c.as_slice.ensures.value c.in_err-game.ensures))
 
 pub returns-in_err-check_end-clause-says : goal.returns-in_err-check_end-clause-says
 returns-in_err-check_end-clause-says g c =
     says_passed (Rose (g.S.Source.faults c.args.source.now) (g.S.Source.faults c.check_end.new.source)) (Found (Some print) (g.S.Source.left c.args.source.now) (g.S.Source.left c.check_end.new.source)) c.in_err-check_end.field-0.0 _ c.from_residual-in_err-check_end.ensures
     (says_extra (Rose (g.S.Source.faults c.args.source.now) (g.S.Source.faults c.check_end.new.source)) (Rose (g.S.Source.faults c.read.new.source) (g.S.Source.faults c.check_end.new.source)) (g.S.Source.left c.args.source.now) c.read.new.reader.ahead (g.S.Source.left c.read.new.source) (g.S.Source.left c.check_end.new.source) c.in_ok-part.part.text.items c.in_ok-part.part.done (game_model c.in_ok-game.game) c.in_err-check_end.field-0.0
-     c.in_ok-part.ensures.part (ap read_text (sym c.as_slice.ensures.value) ∙ c.in_ok-game.ensures) c.in_err-check_end.ensures.stop (rose_earlier _ _ _ c.in_ok-part.ensures.later))
+    c.in_ok-part.ensures.part (ap read_text (sym c.as_slice.ensures.value) ∙ c.in_ok-game.ensures) c.in_err-check_end.ensures.stop (rose_earlier _ _ _ c.in_ok-part.ensures.later))
 
 pub returns-in-Ok-clause-says : goal.returns-in-Ok-clause-says
 returns-in-Ok-clause-says g c =

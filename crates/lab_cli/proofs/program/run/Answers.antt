@@ -1,6 +1,5 @@
-use Rattle.std.proofs.Common.{◌≡◌, Some, None, sym, ap, ◌∙◌, map, string_bytes}
+use Rattle.std.proofs.Common.{Some, sym, map, string_bytes}
 use Rattle.lab_io.specs.Causes.{Rose}
-use Rattle.lab_defs_report.specs.Reports.{built_mode}
 use Rattle.lab_cli.specs.ModeNames.{mode_model}
 use Rattle.lab_cli.specs.Stops.{Found}
 use Rattle.lab_cli.proofs.RunLemmas.{tells_rejected, tells_answer, answers, rejected, read_fault_cause, write_fault_cause, not_bad_words}

@@ -1,4 +1,4 @@
-use Rattle.std.proofs.Common.{◌≡◌, true, Some, Err, sym, ap, ◌∙◌, subst, arith}
+use Rattle.std.proofs.Common.{◌≡◌, true, Some, Err, sym, ap, ◌∙◌, subst}
 use Rattle.lab_defs_report.specs.GameModes.{read_text}
 use Rattle.lab_defs_report.specs.Modes.{session}
 use Rattle.lab_world.specs.Games.{game_model}
@@ -18,7 +18,7 @@ pub returns-in_err-game-clause-says : goal.returns-in_err-game-clause-says
 returns-in_err-game-clause-says g c =
     says_passed (Rose (g.S.Source.faults c.args.source.now) (g.S.Source.faults c.read.new.source)) (Found (Some session) (g.S.Source.left c.args.source.now) (g.S.Source.left c.read.new.source)) c.in_err-game.field-0.0 _ c.from_residual-in_err-game.ensures
     (says_text (Rose (g.S.Source.faults c.args.source.now) (g.S.Source.faults c.read.new.source)) session (g.S.Source.left c.args.source.now) c.read.new.reader.ahead (g.S.Source.left c.read.new.source) c.in_ok-part.part.text.items c.in_ok-part.part.done c.in_err-game.field-0.0 session_refuses
-     c.in_ok-part.ensures.part (subst (λ t. Gives game_model (read_text t) (Err c.in_err-game.field-0.0)) c.as_slice.ensures.value c.in_err-game.ensures))
+    c.in_ok-part.ensures.part (subst (λ t. Gives game_model (read_text t) (Err c.in_err-game.field-0.0)) c.as_slice.ensures.value c.in_err-game.ensures))
 
 pub returns-then-not-is_plain-clause-says : goal.returns-then-not-is_plain-clause-says
 returns-then-not-is_plain-clause-says g c =
@@ -29,7 +29,7 @@ pub returns-in_err-behind-clause-says : goal.returns-in_err-behind-clause-says
 returns-in_err-behind-clause-says g c =
     says_passed (Rose (g.S.Source.faults c.args.source.now) (g.S.Source.faults c.all_behind.new.source)) (Found (Some session) (g.S.Source.left c.args.source.now) (g.S.Source.left c.all_behind.new.source)) c.in_err-behind.field-0.0 _ c.from_residual-in_err-behind.ensures
     (says_too_long (Rose (g.S.Source.faults c.args.source.now) (g.S.Source.faults c.all_behind.new.source)) (Rose (g.S.Source.faults c.read.new.source) (g.S.Source.faults c.all_behind.new.source)) (g.S.Source.left c.args.source.now) c.read.new.reader.ahead (g.S.Source.left c.read.new.source) (g.S.Source.left c.all_behind.new.source) c.in_ok-part.part.text.items c.in_ok-part.part.done (game_model c.in_ok-game.game) c.in_err-behind.field-0.0
-     c.in_ok-part.ensures.part (ap read_text (sym c.as_slice.ensures.value) ∙ c.in_ok-game.ensures) (sym c.if-not-is_plain.ensures) c.in_err-behind.ensures.stop (rose_earlier _ _ _ c.in_ok-part.ensures.later))
+    c.in_ok-part.ensures.part (ap read_text (sym c.as_slice.ensures.value) ∙ c.in_ok-game.ensures) (sym c.if-not-is_plain.ensures) c.in_err-behind.ensures.stop (rose_earlier _ _ _ c.in_ok-part.ensures.later))
 
 pub returns-clause-says : goal.returns-clause-says
 returns-clause-says g c =
