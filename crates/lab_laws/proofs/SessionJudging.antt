@@ -8,7 +8,7 @@ use Rattle.lab_defs_game.specs.Forms.{game_actions}
 use Rattle.lab_defs_value.specs.Tables.{first_weight}
 use Rattle.lab_defs_value.specs.Replies.{strategy_of, other}
 use Rattle.lab_defs_value.specs.BestValues.{IsBest}
-use Rattle.lab_defs_value.specs.Bounds.{at}
+use Rattle.lab_defs_value.specs.Bounds.{at, Holds}
 use Rattle.lab_defs_value.specs.Allowances.{allowance, path_sets, node_sets}
 use Rattle.lab_defs_value.specs.Passes.{Passes, first_above}
 use Rattle.lab_defs_value.specs.Splices.{subgame_sets, FitsSpan}
@@ -16,8 +16,9 @@ use Rattle.lab_defs_value.proofs.Passing.{pass_law}
 use Rattle.lab_defs_value.proofs.Splicing.{splice_law}
 use Rattle.lab_defs_report.specs.States.{Plays, Proposal, table_of, bounds_of, tight_bounds, plays_of, with_play, weight_count, played_by, proposed_table, allowances, root_sets, node_list, inside_count, verdict, propose_to}
 use Rattle.lab_defs_report.specs.Headline.{IsAccepted, IsGuarded, PassesAt, SameOutside, Judges, NeverRises}
+use Rattle.lab_laws.specs.Sessions.{IsSeat}
 use Rattle.lab_laws.proofs.SessionSpans.{fits, some_inside, outside_span}
-use Rattle.lab_laws.proofs.SessionParts.{IsSeat, other_seat, sound, tight_best, nodes_there, passes_tight, part_of, never_rises}
+use Rattle.lab_laws.proofs.SessionParts.{other_seat, sound, some_set, at_tight, tight_holds, tight_best, nodes_there, passes_tight, part_of, never_rises}
 
 -- ---- what is kept
 
@@ -119,9 +120,10 @@ judged g ok p k q is long some = by (first_above (strategy_of g q.seat after) (a
     -- the bound doesn't rise
     low : PassesAt g p q after → at (tight_bounds g q.seat after) 0 ≤ℤ at (bounds_of p q.seat) 0
     low pass =
-        subst (λ b. at (tight_bounds g q.seat after) 0 ≤ℤ at b 0) (sym (k.tight q.seat is))
-        (never_rises g ok q.seat is (node_list g q) table q.weights (part_of g ok q.seat is (node_list g q) table q.weights (k.long q.seat is) long some) q.rule
-        (subst (λ b. Passes (strategy_of g q.seat after) (at b) (allowance q.rule (played_by g p q.seat) (at b) (path_sets g (other q.seat) (node_list g q))) (root_sets g q)) (k.tight q.seat is) pass))
+        let B : ℕ → ℤ = at (bounds_of p q.seat) in
+        let hold : Holds (played_by g p q.seat) B = subst (λ b. Holds (played_by g p q.seat) (at b)) (sym (k.tight q.seat is)) (tight_holds g ok q.seat is table) in
+        subst (λ x. x ≤ℤ B 0) (sym (at_tight g ok q.seat is after 0 (some_set g (other q.seat) ok.good)))
+        (never_rises g ok q.seat is (node_list g q) table q.weights B (part_of g ok q.seat is (node_list g q) table q.weights B hold (k.long q.seat is) long some) q.rule pass)
 
     accepted : Plays
     accepted = with_play g p q.seat after

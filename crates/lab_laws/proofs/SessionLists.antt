@@ -95,3 +95,8 @@ weights_split ns a c = ap (sum_over weights_of) (take-add a c ns) ∙ sum_over-a
 -- the weights of all sets
 pub weights_all : (ns : List ℕ) → first_weight ns (length ns) ≡ sum_over weights_of ns
 weights_all ns = ap (sum_over weights_of) (take-length ns)
+
+-- what is made of each item
+pub map_each : {X Y : Type 0} (f h : X → Y) (xs : List X) → ((x : X) → f x ≡ h x) → map f xs ≡ map h xs
+map_each f h [] e = refl
+map_each f h (x ∷ xs) e = ap (λ y. y ∷ map f xs) (e x) ∙ ap (λ ys. h x ∷ ys) (map_each f h xs e)

@@ -24,7 +24,7 @@ use Rattle.lab_defs_report.specs.Commands.{Command, expect_uniform, expect, blue
 use Rattle.lab_defs_report.specs.States.{State, Plays, Proposal, SessionFault, no_decision, bad_seat, wrong_count, step_of, plays_of, table_of, bounds_of, weight_count, first_wrong_sum, unless_wrong, counted, given_tables, node_list, inside_actions, inside_count, good_seat, good_node, decides_there, good_weights, good_rounds, propose_to, candidate_of, with_weights, kept, playing, bound_reply, show_reply, cert_reply, dealt, blueprint_reply}
 use Rattle.lab_defs_report.specs.Headline.{IsAccepted, start, Leads, Does, NeverRises, Headline}
 use Rattle.lab_laws.proofs.SessionSpans.{numbers_of_span}
-use Rattle.lab_laws.proofs.SessionParts.{IsSeat}
+use Rattle.lab_laws.specs.Sessions.{IsSeat}
 use Rattle.lab_laws.proofs.SessionJudging.{IsKept, fresh_kept, guarded, IsJudged, judged}
 
 -- ---- what a command tells that is not refused

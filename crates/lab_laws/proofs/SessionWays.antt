@@ -65,7 +65,7 @@ outside_from s t e = at (cases_lt t.set s.start) (cases_lt t.set s.end)
     at (inr g) (inl k) = absurd (both_ways (is_inside s t) e (ap (λ b. b && nat_lt t.set s.end) (le-leb s.start t.set g) ∙ lt-ltb t.set s.end k))
 
 -- a path of which nothing is inside stays outside
-none_out : (s : Span) (path : List Taken) → inner s path ≡ [] → stays_outside s.start s.end path ≡ true
+pub none_out : (s : Span) (path : List Taken) → inner s path ≡ [] → stays_outside s.start s.end path ≡ true
 none_out s [] e = refl
 none_out s (t ∷ ts) e = at (is_inside s t) refl e (λ k. none_out s ts k)
   where
@@ -81,7 +81,7 @@ begins_short : (P Q : List ℕ) → begins P Q ≡ true → length P ≤ length 
 begins_short P Q e = let r = (begins_law P Q).0 e in let long : length Q ≡ length P + length r.0 = ap length r.1 ∙ length-append P r.0 in omega (arith, long)
 
 -- a list begins itself
-begins_self : (P : List ℕ) → begins P P ≡ true
+pub begins_self : (P : List ℕ) → begins P P ≡ true
 begins_self P = (begins_law P P).1 ([], sym (append-nil P))
 
 -- nothing but nothing begins nothing
@@ -115,7 +115,7 @@ module _ (g : GameModel) (seat : ℕ) (node : List ℕ) where
       (ap (λ p. begins p node && begins node p) (public_at g seat k j) ∙ e)
 
   -- a step further
-  longer_list : (h : History) (r : Longer g (histories g) h) → public_list g h ≡ public_list g r.before ++ (outcome_of g (reached g g.root r.before) r.step).public ∷ []
+  pub longer_list : (h : History) (r : Longer g (histories g) h) → public_list g h ≡ public_list g r.before ++ (outcome_of g (reached g g.root r.before) r.step).public ∷ []
   longer_list h r = ap (public_list g) r.made ∙ public_push g g.root r.before r.step
 
   -- along a history whose public list begins the node's, all steps are on the way
