@@ -1,5 +1,5 @@
 -- What a certificate bounds, and how it is tested.
-use Rattle.std.proofs.Common.{◌≡◌, ℕ, ◌+◌, ◌<◌, ◌≤◌, ℤ, ◌-ℤ◌, ◌≤ℤ◌, List, [], ◌∷◌, Bool, true, false, cond, length, refl, sym, ap, ◌∙◌, subst, arith, Option, Some, None}
+use Rattle.std.proofs.Common.{◌≡◌, ℕ, ◌<◌, ℤ, ◌-ℤ◌, ◌≤ℤ◌, List, [], ◌∷◌, Bool, true, false, cond, length, refl, sym, ap, ◌∙◌, subst, arith, Option, Some, None}
 use Rattle.std.specs.Prelude.{slice_index, int_le}
 use Rattle.std.specs.List.{AllByRecursion, range_with_len}
 use Rattle.std.proofs.lemmas.List.FromFn.{length-map-range_with_len}
@@ -70,7 +70,7 @@ broken_law g c =
           all_in (λ a. through s B J a ≤ℤ B J) (acts s B J) a (none_at s B J (acts s B J) here) (in_range a 0 (slice_index (reply_sets s) J) (omega arith) (omega (arith, la))),
       λ h. among_none s B (range_with_len 0 n) (all_from_in (λ J. broken_at s B J (acts s B J) ≡ None) (range_with_len 0 n) (λ J i.
           at_none s B J (acts s B J) (all_from_in (λ a. through s B J a ≤ℤ B J) (acts s B J) (λ a k.
-              h J a (omega (arith, (in_from_range J 0 n i).1)) (omega (arith, (in_from_range a 0 (slice_index (reply_sets s) J) k).1)))))),
+          h J a (omega (arith, (in_from_range J 0 n i).1)) (omega (arith, (in_from_range a 0 (slice_index (reply_sets s) J) k).1)))))),
     )
 
 -- ---- what is certified

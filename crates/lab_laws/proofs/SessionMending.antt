@@ -1,17 +1,17 @@
 -- A proposal in place changes no bound but those inside its subgame and on the path to it.
-use Rattle.std.proofs.Common.{◌≡◌, ℕ, zero, suc, ◌+◌, ◌<◌, ◌≤◌, ℤ, pos, List, [], ◌∷◌, ◌++◌, Bool, true, false, cond, eqb, ◌||◌, length, map, get_or, refl, sym, ap, ◌∙◌, subst, arith, inl, inr, ◌⊎◌, eqb-true}
+use Rattle.std.proofs.Common.{◌≡◌, ℕ, zero, suc, ◌+◌, ◌<◌, ◌≤◌, ℤ, List, [], ◌∷◌, ◌++◌, Bool, true, false, cond, eqb, ◌||◌, length, refl, sym, ap, ◌∙◌, subst, arith, inl, inr, ◌⊎◌, eqb-true}
 use Rattle.std.specs.Prelude.{slice_index}
-use Rattle.std.specs.List.{All, range_with_len}
-use Rattle.std.proofs.lemmas.Bool.{or_cases, or_parts, both_ways, false_from_ne_true, true_from_ne_false}
+use Rattle.std.specs.List.{All}
+use Rattle.std.proofs.lemmas.Bool.{or_cases, or_parts, both_ways, false_from_ne_true}
 use Rattle.std.proofs.lemmas.List.Elements.{All-from_recursion}
 use Rattle.lab_math.specs.Greatest.{greatest_of}
 use Rattle.lab_math.proofs.Ranges.{map_range_same}
 use Rattle.lab_math.proofs.Members.{In, all_from_in, in_from_filter, in_from_map}
 use Rattle.lab_defs_text.specs.Games.{GameModel}
 use Rattle.lab_defs_game.specs.Histories.{History, outcome_of, reached, histories, terminal_histories, is_terminal}
-use Rattle.lab_defs_game.specs.Sets.{seen, sets, set_number, public_list}
+use Rattle.lab_defs_game.specs.Sets.{sets, public_list}
 use Rattle.lab_defs_game.specs.Nodes.{begins, span_from, span_to}
-use Rattle.lab_defs_game.specs.Forms.{Taken, Row, form_of, game_actions, actions_of, path_along, path_of, row_along}
+use Rattle.lab_defs_game.specs.Forms.{Row, form_of, game_actions, path_along, path_of, row_along}
 use Rattle.lab_defs_game.proofs.GameLemmas.{Longer, history_cases, before_inner}
 use Rattle.lab_defs_game.proofs.Ways.{begins_shorter, begins_cases}
 use Rattle.lab_defs_value.specs.Parents.{passes_through}
@@ -119,9 +119,9 @@ module _ (g : GameModel) (ok : IsAccepted g) (seat : ℕ) (is : IsSeat seat) (no
   off_from I l e =
       let p = or_parts (lies_on (path_sets g (other seat) node) I) (lies_on (subgame_sets g (other seat) node) I) e in (
         false_from_ne_true (begins node (public_of g (other seat) I))
-        (λ k. both_ways (lies_on (subgame_sets g (other seat) node) I) p.1 (lies_kept (λ I. begins node (public_of g (other seat) I)) (length (sets g (other seat))) I l k)),
+            (λ k. both_ways (lies_on (subgame_sets g (other seat) node) I) p.1 (lies_kept (λ I. begins node (public_of g (other seat) I)) (length (sets g (other seat))) I l k)),
         false_from_ne_true (begins (public_of g (other seat) I) node)
-        (λ k. both_ways (lies_on (path_sets g (other seat) node) I) p.0 (lies_kept (λ I. begins (public_of g (other seat) I) node) (length (sets g (other seat))) I l k)),
+            (λ k. both_ways (lies_on (path_sets g (other seat) node) I) p.0 (lies_kept (λ I. begins (public_of g (other seat) I) node) (length (sets g (other seat))) I l k)),
       )
 
 -- the law of mended bounds

@@ -1,5 +1,5 @@
 -- The part of a seat's table inside a subgame may be replaced: what is known of it in an accepted game.
-use Rattle.std.proofs.Common.{◌≡◌, ℕ, zero, suc, ◌+◌, ◌<◌, ◌≤◌, ℤ, pos, ◌*ℤ◌, ◌+ℤ◌, ◌≤ℤ◌, ◌^◌, List, [], ◌∷◌, Bool, true, false, cond, ◌&&◌, ◌||◌, length, map, get_or, refl, sym, ap, ◌∙◌, subst, arith, inl, inr, ◌⊎◌, None}
+use Rattle.std.proofs.Common.{◌≡◌, ℕ, ◌+◌, ◌<◌, ℤ, pos, ◌*ℤ◌, ◌+ℤ◌, ◌≤ℤ◌, ◌^◌, List, [], Bool, true, false, cond, ◌&&◌, ◌||◌, length, get_or, refl, sym, ap, ◌∙◌, subst, arith, inl, inr, ◌⊎◌}
 use Rattle.std.specs.Prelude.{slice_index}
 use Rattle.std.specs.List.{All, list_all, range_with_len}
 use Rattle.std.proofs.lemmas.Bool.{and_parts, and_from}
@@ -22,7 +22,7 @@ use Rattle.lab_defs_game.proofs.Ways.{root_number}
 use Rattle.lab_defs_game.proofs.FormLemmas.{set_below}
 use Rattle.lab_defs_value.specs.Parents.{IsForm, is_step, parent_in}
 use Rattle.lab_defs_value.specs.Tables.{first_weight}
-use Rattle.lab_defs_value.specs.Replies.{Strategy, Reply, IsReply, strategy_of, other, opponent, reply_sets, reply_factors, earned}
+use Rattle.lab_defs_value.specs.Replies.{strategy_of, other, opponent, reply_sets, reply_factors, earned}
 use Rattle.lab_defs_value.specs.BestValues.{IsBest, best_value}
 use Rattle.lab_defs_value.specs.Bounds.{at, through, through_rows, Holds, Tight}
 use Rattle.lab_defs_value.specs.Allowances.{Rule, public_of, path_sets, node_sets, lies_on, allowance, Ascends}
@@ -39,7 +39,7 @@ use Rattle.lab_defs_report.specs.States.{tight_bounds}
 use Rattle.lab_defs_report.specs.Headline.{IsAccepted}
 use Rattle.lab_laws.specs.Sessions.{IsSeat}
 use Rattle.lab_laws.proofs.SessionLists.{lies_kept, all_tests}
-use Rattle.lab_laws.proofs.SessionSpans.{actions_long, inside_first, inside_long, inside_sets, some_inside, inside_weights, fits}
+use Rattle.lab_laws.proofs.SessionSpans.{actions_long, inside_first, inside_long, some_inside, inside_weights, fits}
 use Rattle.lab_laws.proofs.SessionWays.{public_at, runs, stays}
 
 -- ---- seats
@@ -216,7 +216,7 @@ module _ (g : GameModel) (ok : IsAccepted g) (seat : ℕ) (is : IsSeat seat) (no
         table_holds = hold;
         in_order = subst (λ n. Ascends 0 n (path_sets g (other seat) node)) (sym (reply_count g ok seat is)) (path_law g (other seat) node);
         enclosed = ap (λ a. encloses s (path_sets g (other seat) node) (node_sets g (other seat) node) a behind_inside) first
-        ∙ ap (λ b. encloses s (path_sets g (other seat) node) (node_sets g (other seat) node) (span_from g seat node) b) last ∙ enclosed g seat is node table;
+            ∙ ap (λ b. encloses s (path_sets g (other seat) node) (node_sets g (other seat) node) (span_from g seat node) b) last ∙ enclosed g seat is node table;
         fits = subst (λ a. FitsSpan a first_inside behind_inside table weights) (sym (actions_there g seat is)) (fits g seat node table weights whole long some);
       }
 

@@ -1,7 +1,7 @@
 -- Commands lead from kept plays to kept plays.
-use Rattle.std.proofs.Common.{◌≡◌, ℕ, zero, suc, ◌+◌, ◌<◌, ◌≤◌, List, [], ◌∷◌, Bool, true, false, cond, eqb, ◌||◌, length, take, drop, refl, sym, ap, ◌∙◌, subst, arith, inl, inr, ◌⊎◌, Option, Some, None, Result, Ok, Err, eq-eqb, eqb-true, length-take-le}
-use Rattle.std.specs.Prelude.{slice_index, nat_lt, nat_le, ◌&&◌}
-use Rattle.std.proofs.lemmas.Bool.{or_cases, cases_lt, both_ways}
+use Rattle.std.proofs.Common.{◌≡◌, ℕ, zero, suc, ◌+◌, ◌<◌, List, [], ◌∷◌, Bool, true, cond, eqb, ◌||◌, length, take, drop, refl, sym, ap, ◌∙◌, subst, arith, inl, inr, ◌⊎◌, Option, Some, None, Result, Ok, Err, eqb-true, length-take-le}
+use Rattle.std.specs.Prelude.{slice_index}
+use Rattle.std.proofs.lemmas.Bool.{or_cases}
 use Rattle.std.proofs.lemmas.List.{length-drop, length-replicate}
 use Rattle.std.specs.Prelude.{pos}
 use Rattle.lab_math.proofs.Integers.{le_of_eq_z}
@@ -9,11 +9,9 @@ use Rattle.lab_defs_text.specs.Words.{Bytes}
 use Rattle.lab_defs_text.specs.Games.{GameModel}
 use Rattle.lab_defs_text.specs.Steps.{◌>>=◌}
 use Rattle.lab_defs_text.proofs.StepLemmas.{bind_ok, passed, ok_is, some_is}
-use Rattle.lab_defs_game.specs.Nodes.{nodes}
 use Rattle.lab_defs_game.specs.Forms.{game_actions}
 use Rattle.lab_defs_value.specs.Tables.{first_weight}
 use Rattle.lab_defs_value.specs.Expectation.{grid_of, uniform_of}
-use Rattle.lab_defs_value.specs.Allowances.{Rule}
 use Rattle.lab_defs_value.specs.Splices.{subgame_sets}
 use Rattle.lab_defs_value.specs.Candidates.{solved_tables}
 use Rattle.lab_defs_value.specs.Matching.{zeros}

@@ -1,16 +1,16 @@
 -- The keeper comes into a span only where the opponent comes along the path to its node.
-use Rattle.std.proofs.Common.{◌≡◌, ℕ, zero, suc, ◌+◌, ◌<◌, ◌≤◌, List, [], ◌∷◌, ◌++◌, Bool, true, false, cond, not, ◌&&◌, ◌||◌, length, map, filter, refl, sym, ap, ◌∙◌, subst, arith, inl, inr, ◌⊎◌, length-append}
+use Rattle.std.proofs.Common.{◌≡◌, ℕ, zero, suc, ◌+◌, ◌<◌, ◌≤◌, List, [], ◌∷◌, ◌++◌, Bool, true, false, cond, not, ◌&&◌, ◌||◌, length, map, refl, sym, ap, ◌∙◌, subst, arith, inl, inr, ◌⊎◌, length-append}
 use Rattle.std.specs.Prelude.{nat_le, nat_lt}
-use Rattle.std.specs.List.{list_all, range_with_len}
+use Rattle.std.specs.List.{list_all}
 use Rattle.std.proofs.lemmas.Bool.{and_parts, both_ways, false_from_ne_true, not-true, cases_lt, le-leb, lt-ltb}
 use Rattle.std.proofs.lemmas.List.{append-nil, length_push}
 use Rattle.lab_math.proofs.ListTests.{all_push}
-use Rattle.lab_math.proofs.Members.{In, in_from_filter, in_from_map, in_from_range}
+use Rattle.lab_math.proofs.Members.{In}
 use Rattle.lab_defs_text.specs.Games.{GameModel}
-use Rattle.lab_defs_game.specs.Histories.{History, Step, outcome_of, reached, histories, inner_histories, terminal_histories, is_terminal}
+use Rattle.lab_defs_game.specs.Histories.{History, outcome_of, reached, histories, inner_histories}
 use Rattle.lab_defs_game.specs.Sets.{seen, sets, set_cmp, set_number, public_list, publics}
 use Rattle.lab_defs_game.specs.Nodes.{begins, span_from, span_to}
-use Rattle.lab_defs_game.specs.Forms.{Taken, Row, path_along, path_of, row_along}
+use Rattle.lab_defs_game.specs.Forms.{Taken, path_along}
 use Rattle.lab_defs_game.proofs.Orders.{set_total}
 use Rattle.lab_defs_game.proofs.NumberLemmas.{at_number}
 use Rattle.lab_defs_game.proofs.GameLemmas.{Longer, history_cases, before_inner, set_has, sets_ascending, publics_seen, public_push}
@@ -22,7 +22,7 @@ use Rattle.lab_defs_value.specs.Splices.{stays_outside, leaves, runs_to}
 use Rattle.lab_defs_value.specs.Subgames.{Span, span_at, is_inside, inside}
 use Rattle.lab_defs_value.proofs.GameForms.{longer_path, shorter, taken_at}
 use Rattle.lab_defs_value.proofs.SubgameForms.{lowered, inner, inside_is, none_inside}
-use Rattle.lab_laws.proofs.SessionLists.{lies_kept, lies_dropped, all_tests}
+use Rattle.lab_laws.proofs.SessionLists.{lies_kept, lies_dropped}
 
 -- ---- one more step of a path
 
