@@ -1,23 +1,22 @@
 -- What a session keeps, and how it judges a proposal.
-use Rattle.std.proofs.Common.{◌≡◌, ℕ, zero, suc, ◌+◌, ◌<◌, ◌≤◌, ℤ, pos, ◌≤ℤ◌, List, [], ◌∷◌, Bool, true, false, length, refl, sym, ap, ◌∙◌, subst, arith, inl, inr, ◌⊎◌, Option, Some, None}
+use Rattle.std.proofs.Common.{◌≡◌, ℕ, ◌+◌, ◌<◌, ℤ, ◌≤ℤ◌, List, length, refl, sym, ap, ◌∙◌, subst, inl, inr, ◌⊎◌, Option, Some, None}
 use Rattle.std.specs.Prelude.{◌↔◌, slice_index}
 use Rattle.lab_math.proofs.Integers.{le_of_eq_z}
 use Rattle.lab_defs_text.specs.Words.{Bytes}
 use Rattle.lab_defs_text.specs.Games.{GameModel}
 use Rattle.lab_defs_game.specs.Forms.{game_actions}
-use Rattle.lab_defs_value.specs.Tables.{first_weight}
 use Rattle.lab_defs_value.specs.Replies.{strategy_of, other}
 use Rattle.lab_defs_value.specs.BestValues.{IsBest}
-use Rattle.lab_defs_value.specs.Bounds.{at}
-use Rattle.lab_defs_value.specs.Allowances.{allowance, path_sets, node_sets}
+use Rattle.lab_defs_value.specs.Bounds.{at, Holds}
 use Rattle.lab_defs_value.specs.Passes.{Passes, first_above}
 use Rattle.lab_defs_value.specs.Splices.{subgame_sets, FitsSpan}
 use Rattle.lab_defs_value.proofs.Passing.{pass_law}
 use Rattle.lab_defs_value.proofs.Splicing.{splice_law}
 use Rattle.lab_defs_report.specs.States.{Plays, Proposal, table_of, bounds_of, tight_bounds, plays_of, with_play, weight_count, played_by, proposed_table, allowances, root_sets, node_list, inside_count, verdict, propose_to}
 use Rattle.lab_defs_report.specs.Headline.{IsAccepted, IsGuarded, PassesAt, SameOutside, Judges, NeverRises}
+use Rattle.lab_laws.specs.Sessions.{IsSeat}
 use Rattle.lab_laws.proofs.SessionSpans.{fits, some_inside, outside_span}
-use Rattle.lab_laws.proofs.SessionParts.{IsSeat, other_seat, sound, tight_best, nodes_there, passes_tight, part_of, never_rises}
+use Rattle.lab_laws.proofs.SessionParts.{other_seat, sound, some_set, at_tight, tight_holds, tight_best, nodes_there, passes_tight, part_of, never_rises}
 
 -- ---- what is kept
 
@@ -119,9 +118,10 @@ judged g ok p k q is long some = by (first_above (strategy_of g q.seat after) (a
     -- the bound doesn't rise
     low : PassesAt g p q after → at (tight_bounds g q.seat after) 0 ≤ℤ at (bounds_of p q.seat) 0
     low pass =
-        subst (λ b. at (tight_bounds g q.seat after) 0 ≤ℤ at b 0) (sym (k.tight q.seat is))
-        (never_rises g ok q.seat is (node_list g q) table q.weights (part_of g ok q.seat is (node_list g q) table q.weights (k.long q.seat is) long some) q.rule
-        (subst (λ b. Passes (strategy_of g q.seat after) (at b) (allowance q.rule (played_by g p q.seat) (at b) (path_sets g (other q.seat) (node_list g q))) (root_sets g q)) (k.tight q.seat is) pass))
+        let B : ℕ → ℤ = at (bounds_of p q.seat) in
+        let hold : Holds (played_by g p q.seat) B = subst (λ b. Holds (played_by g p q.seat) (at b)) (sym (k.tight q.seat is)) (tight_holds g ok q.seat is table) in
+        subst (λ x. x ≤ℤ B 0) (sym (at_tight g ok q.seat is after 0 (some_set g (other q.seat) ok.good)))
+        (never_rises g ok q.seat is (node_list g q) table q.weights B (part_of g ok q.seat is (node_list g q) table q.weights B hold (k.long q.seat is) long some) q.rule pass)
 
     accepted : Plays
     accepted = with_play g p q.seat after
@@ -134,13 +134,13 @@ judged g ok p k q is long some = by (first_above (strategy_of g q.seat after) (a
     kept : IsKept g accepted
     kept = record {
       long = both_seats (λ s. length (table_of accepted s) ≡ weight_count g s) q.seat is
-      (ap length (played g p after q.seat is)
-      ∙ (splice_law (game_actions g q.seat) first behind table q.weights fit).0
-      ∙ k.long q.seat is)
-      (ap length (other_table g p after q.seat is) ∙ k.long (other q.seat) (other_seat q.seat is));
+          (ap length (played g p after q.seat is)
+          ∙ (splice_law (game_actions g q.seat) first behind table q.weights fit).0
+          ∙ k.long q.seat is)
+          (ap length (other_table g p after q.seat is) ∙ k.long (other q.seat) (other_seat q.seat is));
       tight = both_seats (λ s. bounds_of accepted s ≡ tight_bounds g s (table_of accepted s)) q.seat is
-      (bounded g p after q.seat is ∙ sym (ap (tight_bounds g q.seat) (played g p after q.seat is)))
-      (other_bounds g p after q.seat is ∙ k.tight (other q.seat) (other_seat q.seat is) ∙ sym (ap (tight_bounds g (other q.seat)) (other_table g p after q.seat is)));
+          (bounded g p after q.seat is ∙ sym (ap (tight_bounds g q.seat) (played g p after q.seat is)))
+          (other_bounds g p after q.seat is ∙ k.tight (other q.seat) (other_seat q.seat is) ∙ sym (ap (tight_bounds g (other q.seat)) (other_table g p after q.seat is)));
     }
 
     by : (o : Option ℕ) → first_above (strategy_of g q.seat after) (at (bounds_of p q.seat)) (allowances g p q) (root_sets g q) ≡ o → IsJudged g p q (verdict g p q o)
@@ -164,7 +164,7 @@ judged g ok p k q is long some = by (first_above (strategy_of g q.seat after) (a
         kept = λ t. absurd cc;
       };
       rises = both_seats (λ s. at (bounds_of accepted s) 0 ≤ℤ at (bounds_of p s) 0) q.seat is
-      (subst (λ b. at b 0 ≤ℤ at (bounds_of p q.seat) 0) (sym (bounded g p after q.seat is)) (low (law.1 e)))
-      (le_of_eq_z _ _ (ap (λ b. at b 0) (other_bounds g p after q.seat is)));
+          (subst (λ b. at b 0 ≤ℤ at (bounds_of p q.seat) 0) (sym (bounded g p after q.seat is)) (low (law.1 e)))
+          (le_of_eq_z _ _ (ap (λ b. at b 0) (other_bounds g p after q.seat is)));
       keeps = kept;
     }

@@ -1,15 +1,15 @@
 -- Ranges that a test cuts out, and sets that lie on what is left.
-use Rattle.std.proofs.Common.{◌≡◌, ℕ, zero, suc, ◌+◌, ◌-◌, ◌<◌, ◌≤◌, List, [], ◌∷◌, ◌++◌, Bool, true, false, cond, ◌&&◌, ◌||◌, eqb, length, map, filter, take, drop, get_or, refl, sym, ap, ◌∙◌, subst, arith, inl, inr, ◌⊎◌, eqb-true, min}
-use Rattle.std.specs.Prelude.{nat_le, nat_lt, ◌↔◌, slice_index, slice_range}
+use Rattle.std.proofs.Common.{◌≡◌, ℕ, zero, suc, ◌+◌, ◌-◌, ◌<◌, ◌≤◌, List, [], ◌∷◌, ◌++◌, Bool, true, false, cond, ◌&&◌, ◌||◌, eqb, length, map, filter, take, drop, refl, sym, ap, ◌∙◌, arith, inl, inr, ◌⊎◌, eqb-true}
+use Rattle.std.specs.Prelude.{◌↔◌, slice_index}
 use Rattle.std.specs.List.{list_all, range_with_len}
-use Rattle.std.proofs.lemmas.Bool.{and_parts, or_cases, both_ways, false_from_ne_true, cases_lt}
+use Rattle.std.proofs.lemmas.Bool.{or_cases, both_ways, false_from_ne_true}
 use Rattle.std.proofs.lemmas.List.{append-nil}
 use Rattle.std.proofs.Math.Seq.{take-add, drop-cons, take-length}
 use Rattle.lab_math.specs.Sums.{sum_over}
 use Rattle.lab_math.proofs.NaturalSums.{sum_over-append}
 use Rattle.lab_math.proofs.Ranges.{range_split}
 use Rattle.lab_math.proofs.BelowLemmas.{eqb_self}
-use Rattle.lab_math.proofs.Members.{In, in_range, in_from_range, in_filter, in_from_filter}
+use Rattle.lab_math.proofs.Members.{In, in_range, in_filter, in_from_filter}
 use Rattle.std.proofs.lemmas.List.Elements.{filter-append}
 use Rattle.lab_defs_value.specs.Tables.{first_weight, weights_of}
 use Rattle.lab_defs_value.specs.Allowances.{lies_on}
@@ -95,3 +95,8 @@ weights_split ns a c = ap (sum_over weights_of) (take-add a c ns) ∙ sum_over-a
 -- the weights of all sets
 pub weights_all : (ns : List ℕ) → first_weight ns (length ns) ≡ sum_over weights_of ns
 weights_all ns = ap (sum_over weights_of) (take-length ns)
+
+-- what is made of each item
+pub map_each : {X Y : Type 0} (f h : X → Y) (xs : List X) → ((x : X) → f x ≡ h x) → map f xs ≡ map h xs
+map_each f h [] e = refl
+map_each f h (x ∷ xs) e = ap (λ y. y ∷ map f xs) (e x) ∙ ap (λ ys. h x ∷ ys) (map_each f h xs e)

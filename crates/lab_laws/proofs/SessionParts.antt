@@ -1,5 +1,5 @@
 -- The part of a seat's table inside a subgame may be replaced: what is known of it in an accepted game.
-use Rattle.std.proofs.Common.{◌≡◌, ℕ, zero, suc, ◌+◌, ◌<◌, ◌≤◌, ℤ, pos, ◌*ℤ◌, ◌+ℤ◌, ◌≤ℤ◌, ◌^◌, List, [], ◌∷◌, Bool, true, false, cond, ◌&&◌, ◌||◌, length, map, get_or, refl, sym, ap, ◌∙◌, subst, arith, inl, inr, ◌⊎◌, None}
+use Rattle.std.proofs.Common.{◌≡◌, ℕ, ◌+◌, ◌<◌, ℤ, pos, ◌*ℤ◌, ◌+ℤ◌, ◌≤ℤ◌, ◌^◌, List, [], Bool, true, false, cond, ◌&&◌, ◌||◌, length, get_or, refl, sym, ap, ◌∙◌, subst, arith, inl, inr, ◌⊎◌}
 use Rattle.std.specs.Prelude.{slice_index}
 use Rattle.std.specs.List.{All, list_all, range_with_len}
 use Rattle.std.proofs.lemmas.Bool.{and_parts, and_from}
@@ -22,37 +22,35 @@ use Rattle.lab_defs_game.proofs.Ways.{root_number}
 use Rattle.lab_defs_game.proofs.FormLemmas.{set_below}
 use Rattle.lab_defs_value.specs.Parents.{IsForm, is_step, parent_in}
 use Rattle.lab_defs_value.specs.Tables.{first_weight}
-use Rattle.lab_defs_value.specs.Replies.{Strategy, Reply, IsReply, strategy_of, other, opponent, reply_sets, reply_factors, earned}
+use Rattle.lab_defs_value.specs.Replies.{strategy_of, other, opponent, reply_sets, reply_factors, earned}
 use Rattle.lab_defs_value.specs.BestValues.{IsBest, best_value}
-use Rattle.lab_defs_value.specs.Bounds.{at, through, through_rows, Holds}
+use Rattle.lab_defs_value.specs.Bounds.{at, through, through_rows, Holds, Tight}
 use Rattle.lab_defs_value.specs.Allowances.{Rule, public_of, path_sets, node_sets, lies_on, allowance, Ascends}
 use Rattle.lab_defs_value.specs.Passes.{limit, Passes}
 use Rattle.lab_defs_value.specs.Splices.{subgame_sets, spliced, replaced, with_table, stays_outside, runs_to, encloses, FitsSpan}
 use Rattle.lab_defs_value.specs.Laws.{Sound, IsPart}
 use Rattle.lab_defs_value.proofs.Bests.{one_pow}
+use Rattle.lab_defs_value.proofs.BestLaws.{best_unique, backed_up_law}
 use Rattle.lab_defs_value.proofs.Pools.{path_law}
 use Rattle.lab_defs_value.proofs.PureReplies.{best_value_law}
 use Rattle.lab_defs_value.proofs.GameForms.{game_form_law}
 use Rattle.lab_defs_value.proofs.Safety.{safe_law}
 use Rattle.lab_defs_report.specs.States.{tight_bounds}
 use Rattle.lab_defs_report.specs.Headline.{IsAccepted}
+use Rattle.lab_laws.specs.Sessions.{IsSeat}
 use Rattle.lab_laws.proofs.SessionLists.{lies_kept, all_tests}
-use Rattle.lab_laws.proofs.SessionSpans.{actions_long, inside_first, inside_long, inside_sets, some_inside, inside_weights, fits}
+use Rattle.lab_laws.proofs.SessionSpans.{actions_long, inside_first, inside_long, some_inside, inside_weights, fits}
 use Rattle.lab_laws.proofs.SessionWays.{public_at, runs, stays}
 
 -- ---- seats
 
--- one of the two seats
-abbrev pub IsSeat : ℕ → Type 0
-IsSeat seat = (seat ≡ 1) ⊎ (seat ≡ 2)
-
--- so is the other one
+-- the other seat is one
 pub other_seat : (seat : ℕ) → IsSeat seat → IsSeat (other seat)
 other_seat seat (inl e) = inr (ap other e)
 other_seat seat (inr e) = inl (ap other e)
 
 -- the path of a history's row
-path_there : (g : GameModel) (seat : ℕ) → IsSeat seat → (h : History) → path_of (row_along g h) seat ≡ path_along g seat h
+pub path_there : (g : GameModel) (seat : ℕ) → IsSeat seat → (h : History) → path_of (row_along g h) seat ≡ path_along g seat h
 path_there g seat (inl e) h = subst (λ s. path_of (row_along g h) s ≡ path_along g s h) (sym e) refl
 path_there g seat (inr e) h = subst (λ s. path_of (row_along g h) s ≡ path_along g s h) (sym e) refl
 
@@ -62,7 +60,7 @@ actions_there g seat (inl e) = subst (λ s. actions_of (form_of g) s ≡ game_ac
 actions_there g seat (inr e) = subst (λ s. actions_of (form_of g) s ≡ game_actions g s) (sym e) refl
 
 -- an accepted game is a form for each seat
-form_for : (g : GameModel) → IsAccepted g → (seat : ℕ) → IsSeat seat → IsForm (form_of g) seat
+pub form_for : (g : GameModel) → IsAccepted g → (seat : ℕ) → IsSeat seat → IsForm (form_of g) seat
 form_for g ok seat (inl e) = subst (IsForm (form_of g)) (sym e) (game_form_law g ok.good ok.recalls).0
 form_for g ok seat (inr e) = subst (IsForm (form_of g)) (sym e) (game_form_law g ok.good ok.recalls).1
 
@@ -205,34 +203,32 @@ module _ (g : GameModel) (ok : IsAccepted g) (seat : ℕ) (is : IsSeat seat) (no
   abbrev behind_inside : ℕ
   behind_inside = first_inside + length (subgame_sets g seat node)
 
-  -- where it has as many weights as the sets inside, it is for a part of the table
-  pub part_of : length table ≡ first_weight (game_actions g seat) (length (game_actions g seat)) → length weights ≡ inside_weights g seat node → 0 < inside_weights g seat node
-      → IsPart (strategy_of g seat table) (at (tight_bounds g seat table)) (path_sets g (other seat) node) (node_sets g (other seat) node) first_inside behind_inside weights
-  part_of whole long some =
+  -- where the bounds hold and it has as many weights as the sets inside, it is for a part of the table
+  pub part_of : (B : ℕ → ℤ) → Holds (strategy_of g seat table) B → length table ≡ first_weight (game_actions g seat) (length (game_actions g seat)) → length weights ≡ inside_weights g seat node → 0 < inside_weights g seat node
+      → IsPart (strategy_of g seat table) B (path_sets g (other seat) node) (node_sets g (other seat) node) first_inside behind_inside weights
+  part_of B hold whole long some =
       let first = inside_first g seat node (some_inside g seat node some) in
       let last : behind_inside ≡ span_to g seat node = omega (arith, first, inside_long g seat node) in
       let s = strategy_of g seat table in
       record {
         sound = sound g ok seat is table;
         keeps = form_for g ok seat is;
-        table_holds = tight_holds g ok seat is table;
+        table_holds = hold;
         in_order = subst (λ n. Ascends 0 n (path_sets g (other seat) node)) (sym (reply_count g ok seat is)) (path_law g (other seat) node);
         enclosed = ap (λ a. encloses s (path_sets g (other seat) node) (node_sets g (other seat) node) a behind_inside) first
-        ∙ ap (λ b. encloses s (path_sets g (other seat) node) (node_sets g (other seat) node) (span_from g seat node) b) last ∙ enclosed g seat is node table;
+            ∙ ap (λ b. encloses s (path_sets g (other seat) node) (node_sets g (other seat) node) (span_from g seat node) b) last ∙ enclosed g seat is node table;
         fits = subst (λ a. FitsSpan a first_inside behind_inside table weights) (sym (actions_there g seat is)) (fits g seat node table weights whole long some);
       }
 
-  -- where it passes, by any rule, the bound doesn't rise
-  pub never_rises : IsPart (strategy_of g seat table) (at (tight_bounds g seat table)) (path_sets g (other seat) node) (node_sets g (other seat) node) first_inside behind_inside weights
-      → (rule : Rule)
-      → Passes (strategy_of g seat (replaced g seat node table weights)) (at (tight_bounds g seat table)) (allowance rule (strategy_of g seat table) (at (tight_bounds g seat table)) (path_sets g (other seat) node)) (node_sets g (other seat) node)
-      → at (tight_bounds g seat (replaced g seat node table weights)) 0 ≤ℤ at (tight_bounds g seat table) 0
-  never_rises part rule pass =
+  -- where it passes, by any rule, the most that replies earn is at most the bound at the first set
+  pub never_rises : (B : ℕ → ℤ) → IsPart (strategy_of g seat table) B (path_sets g (other seat) node) (node_sets g (other seat) node) first_inside behind_inside weights → (rule : Rule)
+      → Passes (strategy_of g seat (replaced g seat node table weights)) B (allowance rule (strategy_of g seat table) B (path_sets g (other seat) node)) (node_sets g (other seat) node)
+      → best_value (strategy_of g seat (replaced g seat node table weights)) 0 ≤ℤ B 0
+  never_rises B part rule pass =
       let s = strategy_of g seat table in
       let after = replaced g seat node table weights in
-      let B : ℕ → ℤ = at (tight_bounds g seat table) in
       let path = path_sets g (other seat) node in
-      let b = tight_best g ok seat is after in
+      let b = best_is g ok seat is after 0 (some_set g (other seat) ok.good) in
       let r = b.earns.0 in
       let acts = actions_there g seat is in
       let pass' : Passes (with_table s (spliced (actions_of (form_of g) seat) first_inside behind_inside table weights)) B (allowance rule s B path) (node_sets g (other seat) node) =
@@ -242,3 +238,15 @@ module _ (g : GameModel) (ok : IsAccepted g) (seat : ℕ) (is : IsSeat seat) (no
       subst (λ a. earned (with_table s (spliced a first_inside behind_inside table weights)) r 0 ≤ℤ (pos (r.all ^ reply_factors s) *ℤ B 0)) acts le in
       let one : pos (r.all ^ reply_factors s) *ℤ B 0 ≡ B 0 = ap (λ n. pos (n ^ reply_factors s) *ℤ B 0) b.earns.2 ∙ ap (λ n. pos n *ℤ B 0) (one_pow (reply_factors s)) ∙ one_mul_z (B 0) in
       subst (λ x. x ≤ℤ B 0) b.earns.3 (subst (λ x. earned (strategy_of g seat after) r 0 ≤ℤ x) one le')
+
+  -- the law of local to global
+  pub local_is_global : (bounds : List ℤ) → Tight (strategy_of g seat table) (at bounds) → length table ≡ first_weight (game_actions g seat) (length (game_actions g seat)) → length weights ≡ inside_weights g seat node
+      → 0 < inside_weights g seat node → (rule : Rule)
+      → Passes (strategy_of g seat (replaced g seat node table weights)) (at bounds) (allowance rule (strategy_of g seat table) (at bounds) (path_sets g (other seat) node)) (node_sets g (other seat) node)
+      → best_value (strategy_of g seat (replaced g seat node table weights)) 0 ≤ℤ best_value (strategy_of g seat table) 0
+  local_is_global bounds tight whole long some rule pass =
+      let s = strategy_of g seat table in
+      let hold : Holds s (at bounds) = ((backed_up_law s (sound g ok seat is table) (at bounds)).1 tight).bounds in
+      let l = some_set g (other seat) ok.good in
+      let first : at bounds 0 ≡ best_value s 0 = best_unique s 0 (at bounds 0) (best_value s 0) (tight 0 (subst (λ n. 0 < n) (sym (reply_count g ok seat is)) l)) (best_is g ok seat is table 0 l) in
+      subst (λ x. best_value (strategy_of g seat (replaced g seat node table weights)) 0 ≤ℤ x) first (never_rises (at bounds) (part_of (at bounds) hold whole long some) rule pass)

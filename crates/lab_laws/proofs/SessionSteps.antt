@@ -1,7 +1,7 @@
 -- Commands lead from kept plays to kept plays.
-use Rattle.std.proofs.Common.{◌≡◌, ℕ, zero, suc, ◌+◌, ◌<◌, ◌≤◌, List, [], ◌∷◌, Bool, true, false, cond, eqb, ◌||◌, length, take, drop, refl, sym, ap, ◌∙◌, subst, arith, inl, inr, ◌⊎◌, Option, Some, None, Result, Ok, Err, eq-eqb, eqb-true, length-take-le}
-use Rattle.std.specs.Prelude.{slice_index, nat_lt, nat_le, ◌&&◌}
-use Rattle.std.proofs.lemmas.Bool.{or_cases, cases_lt, both_ways}
+use Rattle.std.proofs.Common.{◌≡◌, ℕ, zero, suc, ◌+◌, ◌<◌, List, [], ◌∷◌, Bool, true, cond, eqb, ◌||◌, length, take, drop, refl, sym, ap, ◌∙◌, subst, arith, inl, inr, ◌⊎◌, Option, Some, None, Result, Ok, Err, eqb-true, length-take-le}
+use Rattle.std.specs.Prelude.{slice_index}
+use Rattle.std.proofs.lemmas.Bool.{or_cases}
 use Rattle.std.proofs.lemmas.List.{length-drop, length-replicate}
 use Rattle.std.specs.Prelude.{pos}
 use Rattle.lab_math.proofs.Integers.{le_of_eq_z}
@@ -9,11 +9,9 @@ use Rattle.lab_defs_text.specs.Words.{Bytes}
 use Rattle.lab_defs_text.specs.Games.{GameModel}
 use Rattle.lab_defs_text.specs.Steps.{◌>>=◌}
 use Rattle.lab_defs_text.proofs.StepLemmas.{bind_ok, passed, ok_is, some_is}
-use Rattle.lab_defs_game.specs.Nodes.{nodes}
 use Rattle.lab_defs_game.specs.Forms.{game_actions}
 use Rattle.lab_defs_value.specs.Tables.{first_weight}
 use Rattle.lab_defs_value.specs.Expectation.{grid_of, uniform_of}
-use Rattle.lab_defs_value.specs.Allowances.{Rule}
 use Rattle.lab_defs_value.specs.Splices.{subgame_sets}
 use Rattle.lab_defs_value.specs.Candidates.{solved_tables}
 use Rattle.lab_defs_value.specs.Matching.{zeros}
@@ -24,7 +22,7 @@ use Rattle.lab_defs_report.specs.Commands.{Command, expect_uniform, expect, blue
 use Rattle.lab_defs_report.specs.States.{State, Plays, Proposal, SessionFault, no_decision, bad_seat, wrong_count, step_of, plays_of, table_of, bounds_of, weight_count, first_wrong_sum, unless_wrong, counted, given_tables, node_list, inside_actions, inside_count, good_seat, good_node, decides_there, good_weights, good_rounds, propose_to, candidate_of, with_weights, kept, playing, bound_reply, show_reply, cert_reply, dealt, blueprint_reply}
 use Rattle.lab_defs_report.specs.Headline.{IsAccepted, start, Leads, Does, NeverRises, Headline}
 use Rattle.lab_laws.proofs.SessionSpans.{numbers_of_span}
-use Rattle.lab_laws.proofs.SessionParts.{IsSeat}
+use Rattle.lab_laws.specs.Sessions.{IsSeat}
 use Rattle.lab_laws.proofs.SessionJudging.{IsKept, fresh_kept, guarded, IsJudged, judged}
 
 -- ---- what a command tells that is not refused

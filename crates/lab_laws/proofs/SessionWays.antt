@@ -1,16 +1,16 @@
 -- The keeper comes into a span only where the opponent comes along the path to its node.
-use Rattle.std.proofs.Common.{◌≡◌, ℕ, zero, suc, ◌+◌, ◌<◌, ◌≤◌, List, [], ◌∷◌, ◌++◌, Bool, true, false, cond, not, ◌&&◌, ◌||◌, length, map, filter, refl, sym, ap, ◌∙◌, subst, arith, inl, inr, ◌⊎◌, length-append}
+use Rattle.std.proofs.Common.{◌≡◌, ℕ, zero, suc, ◌+◌, ◌<◌, ◌≤◌, List, [], ◌∷◌, ◌++◌, Bool, true, false, cond, not, ◌&&◌, ◌||◌, length, map, refl, sym, ap, ◌∙◌, subst, arith, inl, inr, ◌⊎◌, length-append}
 use Rattle.std.specs.Prelude.{nat_le, nat_lt}
-use Rattle.std.specs.List.{list_all, range_with_len}
+use Rattle.std.specs.List.{list_all}
 use Rattle.std.proofs.lemmas.Bool.{and_parts, both_ways, false_from_ne_true, not-true, cases_lt, le-leb, lt-ltb}
 use Rattle.std.proofs.lemmas.List.{append-nil, length_push}
 use Rattle.lab_math.proofs.ListTests.{all_push}
-use Rattle.lab_math.proofs.Members.{In, in_from_filter, in_from_map, in_from_range}
+use Rattle.lab_math.proofs.Members.{In}
 use Rattle.lab_defs_text.specs.Games.{GameModel}
-use Rattle.lab_defs_game.specs.Histories.{History, Step, outcome_of, reached, histories, inner_histories, terminal_histories, is_terminal}
+use Rattle.lab_defs_game.specs.Histories.{History, outcome_of, reached, histories, inner_histories}
 use Rattle.lab_defs_game.specs.Sets.{seen, sets, set_cmp, set_number, public_list, publics}
 use Rattle.lab_defs_game.specs.Nodes.{begins, span_from, span_to}
-use Rattle.lab_defs_game.specs.Forms.{Taken, Row, path_along, path_of, row_along}
+use Rattle.lab_defs_game.specs.Forms.{Taken, path_along}
 use Rattle.lab_defs_game.proofs.Orders.{set_total}
 use Rattle.lab_defs_game.proofs.NumberLemmas.{at_number}
 use Rattle.lab_defs_game.proofs.GameLemmas.{Longer, history_cases, before_inner, set_has, sets_ascending, publics_seen, public_push}
@@ -22,7 +22,7 @@ use Rattle.lab_defs_value.specs.Splices.{stays_outside, leaves, runs_to}
 use Rattle.lab_defs_value.specs.Subgames.{Span, span_at, is_inside, inside}
 use Rattle.lab_defs_value.proofs.GameForms.{longer_path, shorter, taken_at}
 use Rattle.lab_defs_value.proofs.SubgameForms.{lowered, inner, inside_is, none_inside}
-use Rattle.lab_laws.proofs.SessionLists.{lies_kept, lies_dropped, all_tests}
+use Rattle.lab_laws.proofs.SessionLists.{lies_kept, lies_dropped}
 
 -- ---- one more step of a path
 
@@ -65,7 +65,7 @@ outside_from s t e = at (cases_lt t.set s.start) (cases_lt t.set s.end)
     at (inr g) (inl k) = absurd (both_ways (is_inside s t) e (ap (λ b. b && nat_lt t.set s.end) (le-leb s.start t.set g) ∙ lt-ltb t.set s.end k))
 
 -- a path of which nothing is inside stays outside
-none_out : (s : Span) (path : List Taken) → inner s path ≡ [] → stays_outside s.start s.end path ≡ true
+pub none_out : (s : Span) (path : List Taken) → inner s path ≡ [] → stays_outside s.start s.end path ≡ true
 none_out s [] e = refl
 none_out s (t ∷ ts) e = at (is_inside s t) refl e (λ k. none_out s ts k)
   where
@@ -81,7 +81,7 @@ begins_short : (P Q : List ℕ) → begins P Q ≡ true → length P ≤ length 
 begins_short P Q e = let r = (begins_law P Q).0 e in let long : length Q ≡ length P + length r.0 = ap length r.1 ∙ length-append P r.0 in omega (arith, long)
 
 -- a list begins itself
-begins_self : (P : List ℕ) → begins P P ≡ true
+pub begins_self : (P : List ℕ) → begins P P ≡ true
 begins_self P = (begins_law P P).1 ([], sym (append-nil P))
 
 -- nothing but nothing begins nothing
@@ -115,7 +115,7 @@ module _ (g : GameModel) (seat : ℕ) (node : List ℕ) where
       (ap (λ p. begins p node && begins node p) (public_at g seat k j) ∙ e)
 
   -- a step further
-  longer_list : (h : History) (r : Longer g (histories g) h) → public_list g h ≡ public_list g r.before ++ (outcome_of g (reached g g.root r.before) r.step).public ∷ []
+  pub longer_list : (h : History) (r : Longer g (histories g) h) → public_list g h ≡ public_list g r.before ++ (outcome_of g (reached g g.root r.before) r.step).public ∷ []
   longer_list h r = ap (public_list g) r.made ∙ public_push g g.root r.before r.step
 
   -- along a history whose public list begins the node's, all steps are on the way
