@@ -145,16 +145,28 @@ fn answers_refusals_and_faults(rt: HostRuntime) -> Result<(), Fail> {
     let cases = [
         print(PENNIES_2, PENNIES_2, Status::Done),
         print(PENNIES_2_EXCHANGED, PENNIES_2, Status::Done),
-        print(PENNIES_2_SHORT, "refused 6 MissingRow s1 s2\n", Status::Refused),
+        print(
+            PENNIES_2_SHORT,
+            "refused 6 MissingRow s1 s2\n",
+            Status::Refused,
+        ),
         Case {
             commands: "x\n",
             ..print(PENNIES_2, "refused 21 ExtraLine\n", Status::Refused)
         },
         Case {
             commands: "x",
-            ..print(PENNIES_2_SHORT, "refused 6 MissingRow s1 s2\n", Status::Refused)
+            ..print(
+                PENNIES_2_SHORT,
+                "refused 6 MissingRow s1 s2\n",
+                Status::Refused,
+            )
         },
-        print(PENNIES_2.trim_end(), "refused 20 NoNewline\n", Status::Refused),
+        print(
+            PENNIES_2.trim_end(),
+            "refused 20 NoNewline\n",
+            Status::Refused,
+        ),
         session(PENNIES_2, "expect uniform\n", "expect 0/1\n", Status::Done),
         session(PENNIES_3, "expect uniform\n", "expect 1/9\n", Status::Done),
         session(PENNIES_2, "", "", Status::Done),
@@ -183,8 +195,18 @@ fn answers_refusals_and_faults(rt: HostRuntime) -> Result<(), Fail> {
             "refused 6 CutShort\n",
             Status::Refused,
         ),
-        session(FORK, "expect uniform\n", "refused 36 NotBuilt\n", Status::Refused),
-        session(PENNIES_2, "bound 1\n", "refused 21 NotBuilt\n", Status::Refused),
+        session(
+            FORK,
+            "expect uniform\n",
+            "refused 36 NotBuilt\n",
+            Status::Refused,
+        ),
+        session(
+            PENNIES_2,
+            "bound 1\n",
+            "refused 21 NotBuilt\n",
+            Status::Refused,
+        ),
         session(
             PENNIES_2,
             "expect uniform\nexpect uniform",
@@ -197,7 +219,12 @@ fn answers_refusals_and_faults(rt: HostRuntime) -> Result<(), Fail> {
             "expect 0/1\nrefused 22 BadSpace 2\n",
             Status::Refused,
         ),
-        session("", PENNIES_2.trim_end(), "refused 20 NoNewline\n", Status::Refused),
+        session(
+            "",
+            PENNIES_2.trim_end(),
+            "refused 20 NoNewline\n",
+            Status::Refused,
+        ),
         Case {
             failing_read: Some(0),
             status: Status::ReadFault,

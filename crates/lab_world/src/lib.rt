@@ -15,4 +15,3 @@ mod stages;
 pub use game::Game;
 pub use parts::{AssembleFault, PartOutcome, PartPlace, PartRow, Parts};
 pub use place::{ActionId, Outcome, Place, Recall, Row, TokenId, World, WorldId};
-
