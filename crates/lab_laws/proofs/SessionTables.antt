@@ -1,5 +1,5 @@
 -- Tables whose weights sum to the grid: as they are read, and with a part replaced.
-use Rattle.std.proofs.Common.{◌≡◌, ℕ, zero, suc, ◌+◌, ◌-◌, ◌<◌, ◌≤◌, List, [], ◌∷◌, Bool, true, false, cond, eqb, not, ◌&&◌, ◌||◌, length, take, drop, get_or, refl, sym, ap, ◌∙◌, subst, arith, inl, inr, ◌⊎◌, Option, Some, None, Result, Ok, eqb-true, zero-add}
+use Rattle.std.proofs.Common.{◌≡◌, ℕ, zero, suc, ◌+◌, ◌-◌, ◌<◌, ◌≤◌, List, [], ◌∷◌, Bool, true, false, cond, eqb, not, ◌&&◌, ◌||◌, length, take, drop, get_or, refl, sym, ap, ◌∙◌, arith, inl, inr, ◌⊎◌, Option, Some, None, Result, Ok, eqb-true, zero-add}
 use Rattle.std.specs.Prelude.{nat_le, nat_lt, slice_index, slice_range, sum}
 use Rattle.std.proofs.lemmas.Bool.{both_ways, cases_lt, lt-ltb, le-leb}
 use Rattle.std.proofs.lemmas.List.{take_all, get_or_past, get_or-drop, length-take, length-drop}
@@ -7,7 +7,7 @@ use Rattle.std.proofs.lemmas.List.Sums.{sum_by_more}
 use Rattle.lab_math.specs.Below.{sum_below}
 use Rattle.lab_math.proofs.BelowLemmas.{sum_below_cong}
 use Rattle.lab_defs_game.specs.Forms.{decides}
-use Rattle.lab_defs_value.specs.Tables.{weights_of, first_weight, factor}
+use Rattle.lab_defs_value.specs.Tables.{weights_of, first_weight}
 use Rattle.lab_defs_value.specs.Splices.{spliced, FitsSpan}
 use Rattle.lab_defs_value.proofs.SubgameRows.{set_inside, weight_inside}
 use Rattle.lab_defs_value.proofs.Splicing.{splice_law}
@@ -68,8 +68,8 @@ spliced_sums grid ns start end table proposal f whole part J l d = by (cases_lt 
     outside : (nat_lt J start || nat_le end J) ≡ true → sum_below (slice_index ns J) (λ a. slice_index (spliced ns start end table proposal) (first_weight ns J + a)) ≡ grid
     outside out =
         sum_below_cong (slice_index ns J) _ (λ a. slice_index table (first_weight ns J + a)) (λ a la.
-            sym (ap (λ b. cond b (slice_index (spliced ns start end table proposal) (first_weight ns J + a)) 1) d)
-            ∙ (splice_law ns start end table proposal f).1 (record { set = J; action = a }) la out ∙ ap (λ b. cond b (slice_index table (first_weight ns J + a)) 1) d)
+        sym (ap (λ b. cond b (slice_index (spliced ns start end table proposal) (first_weight ns J + a)) 1) d)
+        ∙ (splice_law ns start end table proposal f).1 (record { set = J; action = a }) la out ∙ ap (λ b. cond b (slice_index table (first_weight ns J + a)) 1) d)
         ∙ whole J l d
 
     inside : start ≤ J → J < end → sum_below (slice_index ns J) (λ a. slice_index (spliced ns start end table proposal) (first_weight ns J + a)) ≡ grid
@@ -78,7 +78,7 @@ spliced_sums grid ns start end table proposal f whole part J l d = by (cases_lt 
         let there : J - start < length (slice_range ns start end) = omega (arith, length-take (end - start) (drop start ns), length-drop start ns, f.within, ge, k) in
         let place = weight_inside ns start end J ge k in
         sum_below_cong (slice_index ns J) _ (λ a. slice_index proposal (first_weight (slice_range ns start end) (J - start) + a)) (λ a la.
-            (splice_law ns start end table proposal f).2 J a ge k d la ∙ ap (λ i. slice_index proposal (i + a)) (sym place))
+        (splice_law ns start end table proposal f).2 J a ge k d la ∙ ap (λ i. slice_index proposal (i + a)) (sym place))
         ∙ ap (λ m. sum_below m (λ a. slice_index proposal (first_weight (slice_range ns start end) (J - start) + a))) (sym same)
         ∙ part (J - start) there (ap (nat_le 2) same ∙ d)
 
