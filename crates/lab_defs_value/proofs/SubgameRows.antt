@@ -34,7 +34,7 @@ first_weight_from [] (suc start) k = no_weights (suc start + k) ∙ sym (ap (λ 
 first_weight_from (n ∷ ns) (suc start) k = ap (first_weight (n ∷ ns)) (suc-add start k) ∙ ap (λ x. weights_of n + x) (first_weight_from ns start k) ∙ omega arith
 
 -- the first weight of a set inside, among those of the span
-weight_inside : (ns : List ℕ) (start end J : ℕ) → start ≤ J → J < end → first_weight (slice_range ns start end) (J - start) ≡ first_weight ns J - first_weight ns start
+pub weight_inside : (ns : List ℕ) (start end J : ℕ) → start ≤ J → J < end → first_weight (slice_range ns start end) (J - start) ≡ first_weight ns J - first_weight ns start
 weight_inside ns start end J ge l =
     let same : start + (J - start) ≡ J = omega (arith, ge) in
     let both : first_weight ns J ≡ first_weight ns start + first_weight (drop start ns) (J - start) = ap (first_weight ns) (sym same) ∙ first_weight_from ns start (J - start) in

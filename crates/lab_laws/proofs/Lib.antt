@@ -1,5 +1,6 @@
 pub mod SessionLists
 pub mod SessionSpans
+pub mod SessionTables
 pub mod SessionWays
 pub mod SessionParts
 pub mod SessionJudging

@@ -1,9 +1,11 @@
 -- What a session keeps, and how it judges a proposal.
 use Rattle.std.proofs.Common.{◌≡◌, ℕ, ◌+◌, ◌<◌, ℤ, ◌≤ℤ◌, List, length, refl, sym, ap, ◌∙◌, subst, inl, inr, ◌⊎◌, Option, Some, None}
-use Rattle.std.specs.Prelude.{◌↔◌, slice_index}
+use Rattle.std.specs.Prelude.{slice_range, ◌↔◌, slice_index}
 use Rattle.lab_math.proofs.Integers.{le_of_eq_z}
 use Rattle.lab_defs_text.specs.Words.{Bytes}
 use Rattle.lab_defs_text.specs.Games.{GameModel}
+use Rattle.lab_defs_game.specs.Forms.{game_actions}
+use Rattle.lab_defs_value.specs.Expectation.{grid_of}
 use Rattle.lab_defs_game.specs.Forms.{game_actions}
 use Rattle.lab_defs_value.specs.Replies.{strategy_of, other}
 use Rattle.lab_defs_value.specs.BestValues.{IsBest}
@@ -12,21 +14,27 @@ use Rattle.lab_defs_value.specs.Passes.{Passes, first_above}
 use Rattle.lab_defs_value.specs.Splices.{subgame_sets, FitsSpan}
 use Rattle.lab_defs_value.proofs.Passing.{pass_law}
 use Rattle.lab_defs_value.proofs.Splicing.{splice_law}
-use Rattle.lab_defs_report.specs.States.{Plays, Proposal, table_of, bounds_of, tight_bounds, plays_of, with_play, weight_count, played_by, proposed_table, allowances, root_sets, node_list, inside_count, verdict, propose_to}
+use Rattle.lab_defs_report.specs.States.{inside_actions, Plays, Proposal, table_of, bounds_of, tight_bounds, plays_of, with_play, weight_count, played_by, proposed_table, allowances, root_sets, node_list, inside_count, verdict, propose_to}
 use Rattle.lab_defs_report.specs.Headline.{IsAccepted, IsGuarded, PassesAt, SameOutside, Judges, NeverRises}
 use Rattle.lab_laws.specs.Sessions.{IsSeat}
-use Rattle.lab_laws.proofs.SessionSpans.{fits, some_inside, outside_span}
+use Rattle.lab_laws.proofs.SessionTables.{SumsTo, spliced_sums}
+use Rattle.lab_laws.proofs.SessionSpans.{numbers_between, fits, some_inside, outside_span}
 use Rattle.lab_laws.proofs.SessionParts.{other_seat, sound, some_set, at_tight, tight_holds, tight_best, nodes_there, passes_tight, part_of, never_rises}
 
 -- ---- what is kept
 
--- the tables have all their weights, and the bounds are tight
+-- a table of a seat has all its weights, and they sum to the grid
+pub record IsFull (g : GameModel) (seat : ℕ) (table : List ℕ) : Type 0 where
+  pub long : length table ≡ weight_count g seat
+  pub sums : SumsTo (grid_of g seat) (game_actions g seat) table
+
+-- the tables are full, and the bounds are tight
 pub record IsKept (g : GameModel) (p : Plays) : Type 0 where
-  pub long : (seat : ℕ) → IsSeat seat → length (table_of p seat) ≡ weight_count g seat
+  pub full : (seat : ℕ) → IsSeat seat → IsFull g seat (table_of p seat)
   pub tight : (seat : ℕ) → IsSeat seat → bounds_of p seat ≡ tight_bounds g seat (table_of p seat)
 
 -- what holds of both seats
-each_seat : (P : ℕ → Type 0) → P 1 → P 2 → (seat : ℕ) → IsSeat seat → P seat
+pub each_seat : (P : ℕ → Type 0) → P 1 → P 2 → (seat : ℕ) → IsSeat seat → P seat
 each_seat P one two seat (inl e) = subst P (sym e) one
 each_seat P one two seat (inr e) = subst P (sym e) two
 
@@ -46,9 +54,9 @@ both_seats P seat is mine theirs s at = by (same_or_other seat s is at)
     by (inr e) = subst P (sym e) theirs
 
 -- new plays keep it
-pub fresh_kept : (g : GameModel) (table1 table2 : List ℕ) → length table1 ≡ weight_count g 1 → length table2 ≡ weight_count g 2 → IsKept g (plays_of g table1 table2)
+pub fresh_kept : (g : GameModel) (table1 table2 : List ℕ) → IsFull g 1 table1 → IsFull g 2 table2 → IsKept g (plays_of g table1 table2)
 fresh_kept g table1 table2 one two = record {
-  long = each_seat (λ s. length (table_of (plays_of g table1 table2) s) ≡ weight_count g s) one two;
+  full = each_seat (λ s. IsFull g s (table_of (plays_of g table1 table2) s)) one two;
   tight = each_seat (λ s. bounds_of (plays_of g table1 table2) s ≡ tight_bounds g s (table_of (plays_of g table1 table2) s)) refl refl;
 }
 
@@ -89,9 +97,10 @@ pub record IsJudged (g : GameModel) (p : Plays) (q : Proposal) (r : Plays × Lis
   pub rises : NeverRises p r.0
   pub keeps : IsKept g r.0
 
--- one that has as many weights as are needed
-pub judged : (g : GameModel) → IsAccepted g → (p : Plays) → IsKept g p → (q : Proposal) → IsSeat q.seat → length q.weights ≡ inside_count g q → 0 < inside_count g q → IsJudged g p q (propose_to g p q)
-judged g ok p k q is long some = by (first_above (strategy_of g q.seat after) (at (bounds_of p q.seat)) (allowances g p q) (root_sets g q)) refl
+-- one that has as many weights as are needed, and they sum to the grid
+pub judged : (g : GameModel) → IsAccepted g → (p : Plays) → IsKept g p → (q : Proposal) → IsSeat q.seat → length q.weights ≡ inside_count g q → 0 < inside_count g q
+    → SumsTo (grid_of g q.seat) (inside_actions g q) q.weights → IsJudged g p q (propose_to g p q)
+judged g ok p k q is long some sums = by (first_above (strategy_of g q.seat after) (at (bounds_of p q.seat)) (allowances g p q) (root_sets g q)) refl
   where
     table : List ℕ
     table = table_of p q.seat
@@ -110,7 +119,7 @@ judged g ok p k q is long some = by (first_above (strategy_of g q.seat after) (a
     behind = first + length (subgame_sets g q.seat (node_list g q))
 
     fit : FitsSpan (game_actions g q.seat) first behind table q.weights
-    fit = fits g q.seat (node_list g q) table q.weights (k.long q.seat is) long some
+    fit = fits g q.seat (node_list g q) table q.weights (k.full q.seat is).long long some
 
     ok_none : {A : Type 0} (x : A) → ◌≡◌ {A = Option A} (Some x) None → ⊥
     ok_none x e = cc
@@ -121,7 +130,7 @@ judged g ok p k q is long some = by (first_above (strategy_of g q.seat after) (a
         let B : ℕ → ℤ = at (bounds_of p q.seat) in
         let hold : Holds (played_by g p q.seat) B = subst (λ b. Holds (played_by g p q.seat) (at b)) (sym (k.tight q.seat is)) (tight_holds g ok q.seat is table) in
         subst (λ x. x ≤ℤ B 0) (sym (at_tight g ok q.seat is after 0 (some_set g (other q.seat) ok.good)))
-        (never_rises g ok q.seat is (node_list g q) table q.weights B (part_of g ok q.seat is (node_list g q) table q.weights B hold (k.long q.seat is) long some) q.rule pass)
+        (never_rises g ok q.seat is (node_list g q) table q.weights B (part_of g ok q.seat is (node_list g q) table q.weights B hold (k.full q.seat is).long long some) q.rule pass)
 
     accepted : Plays
     accepted = with_play g p q.seat after
@@ -131,13 +140,19 @@ judged g ok p k q is long some = by (first_above (strategy_of g q.seat after) (a
         (splice_law (game_actions g q.seat) first behind table q.weights fit).1
         (record { set = set; action = action }) la (outside_span g q.seat (node_list g q) (some_inside g q.seat (node_list g q) some) set off))
 
+    part : SumsTo (grid_of g q.seat) (slice_range (game_actions g q.seat) first behind) q.weights
+    part = subst (λ ns. SumsTo (grid_of g q.seat) ns q.weights) (numbers_between g q.seat (node_list g q) (some_inside g q.seat (node_list g q) some)) sums
+
+    full : IsFull g q.seat after
+    full = record {
+      long = (splice_law (game_actions g q.seat) first behind table q.weights fit).0 ∙ (k.full q.seat is).long;
+      sums = spliced_sums (grid_of g q.seat) (game_actions g q.seat) first behind table q.weights fit (k.full q.seat is).sums part;
+    }
+
     kept : IsKept g accepted
     kept = record {
-      long = both_seats (λ s. length (table_of accepted s) ≡ weight_count g s) q.seat is
-          (ap length (played g p after q.seat is)
-          ∙ (splice_law (game_actions g q.seat) first behind table q.weights fit).0
-          ∙ k.long q.seat is)
-          (ap length (other_table g p after q.seat is) ∙ k.long (other q.seat) (other_seat q.seat is));
+      full = both_seats (λ s. IsFull g s (table_of accepted s)) q.seat is (subst (IsFull g q.seat) (sym (played g p after q.seat is)) full)
+          (subst (IsFull g (other q.seat)) (sym (other_table g p after q.seat is)) (k.full (other q.seat) (other_seat q.seat is)));
       tight = both_seats (λ s. bounds_of accepted s ≡ tight_bounds g s (table_of accepted s)) q.seat is
           (bounded g p after q.seat is ∙ sym (ap (tight_bounds g q.seat) (played g p after q.seat is)))
           (other_bounds g p after q.seat is ∙ k.tight (other q.seat) (other_seat q.seat is) ∙ sym (ap (tight_bounds g (other q.seat)) (other_table g p after q.seat is)));

@@ -1,6 +1,6 @@
 -- The sets inside a subgame are those of its span, and a table with as many weights in it fits.
 use Rattle.std.proofs.Common.{◌≡◌, ℕ, ◌+◌, ◌-◌, ◌<◌, ◌≤◌, List, [], Bool, true, false, ◌||◌, length, map, take, drop, refl, sym, ap, ◌∙◌, subst, arith, inl, inr, ◌⊎◌}
-use Rattle.std.specs.Prelude.{slice_index, nat_lt, nat_le}
+use Rattle.std.specs.Prelude.{slice_range, slice_index, nat_lt, nat_le}
 use Rattle.std.specs.List.{range_with_len}
 use Rattle.std.specs.Ordering.{is_lt}
 use Rattle.std.proofs.lemmas.Bool.{cases_lt, both_ways, lt-ltb, le-leb}
@@ -62,6 +62,15 @@ module _ (g : GameModel) (seat : ℕ) (node : List ℕ) where
   numbers_of_span =
       let many : inside_sets ≡ span_to g seat node - span_from g seat node = omega arith in
       numbers_are ∙ ap (λ n. take n (drop (span_from g seat node) (game_actions g seat))) many
+
+  -- those between the first set inside and the last
+  pub numbers_between : 0 < inside_sets
+      → inside_numbers ≡ slice_range (game_actions g seat) (slice_index (subgame_sets g seat node) 0) (slice_index (subgame_sets g seat node) 0 + length (subgame_sets g seat node))
+  numbers_between some =
+      let first = inside_first some in
+      let last : span_to g seat node ≡ slice_index (subgame_sets g seat node) 0 + length (subgame_sets g seat node) = omega (arith, first, inside_long) in
+      numbers_of_span ∙ ap (λ b. slice_range (game_actions g seat) (span_from g seat node) b) last
+      ∙ ap (λ a. slice_range (game_actions g seat) a (slice_index (subgame_sets g seat node) 0 + length (subgame_sets g seat node))) (sym first)
 
   -- how many weights the sets inside have
   abbrev pub inside_weights : ℕ

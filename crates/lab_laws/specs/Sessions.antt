@@ -1,5 +1,5 @@
 -- Laws of sessions: local to global, bounds found anew, certificates.
-use Rattle.std.specs.Prelude.{◌≡◌, ℕ, Bool, ◌^◌, ◌<◌, ℤ, pos, ◌*ℤ◌, ◌≤ℤ◌, List, length, map, None, ◌||◌, if◌then◌else◌, ◌↔◌, ◌⊎◌}
+use Rattle.std.specs.Prelude.{◌≡◌, ℕ, Bool, ◌^◌, ◌<◌, ℤ, pos, ◌*ℤ◌, ◌≤ℤ◌, List, [], ◌∷◌, length, map, Some, None, Ok, ◌||◌, if◌then◌else◌, ◌↔◌, ◌⊎◌}
 use Rattle.std.specs.List.{range_with_len}
 use Rattle.lab_defs_text.specs.Games.{GameModel}
 use Rattle.lab_defs_game.specs.Sets.{sets}
@@ -10,10 +10,11 @@ use Rattle.lab_defs_value.specs.BestValues.{best_value}
 use Rattle.lab_defs_value.specs.Bounds.{at, Holds, Tight}
 use Rattle.lab_defs_value.specs.Allowances.{path_sets, lies_on}
 use Rattle.lab_defs_value.specs.Splices.{subgame_sets}
-use Rattle.lab_defs_report.specs.States.{Plays, Proposal, table_of, bounds_of, played_by, tight_bounds, weight_count, proposed_table, inside_count, node_list}
-use Rattle.lab_defs_report.specs.CertificateTexts.{Certificate}
+use Rattle.lab_defs_report.specs.States.{State, step_of, Plays, Proposal, table_of, bounds_of, played_by, tight_bounds, weight_count, proposed_table, inside_count, node_list}
+use Rattle.lab_defs_report.specs.Commands.{Command, cert}
+use Rattle.lab_defs_report.specs.CertificateTexts.{Certificate, certificate_text}
 use Rattle.lab_defs_report.specs.Certificates.{IsCertified, certified, first_broken}
-use Rattle.lab_defs_report.specs.Headline.{IsAccepted, PassesAt}
+use Rattle.lab_defs_report.specs.Headline.{IsAccepted, PassesAt, Leads, start}
 
 -- one of the two seats
 abbrev pub IsSeat : ℕ → Type 0
@@ -59,3 +60,9 @@ CertificateLaw = (g : GameModel) → IsAccepted g → (seat : ℕ) → IsSeat se
 -- no inequality is found to fail exactly where all hold
 abbrev pub BrokenLaw : Type 0
 BrokenLaw = (g : GameModel) (c : Certificate) → (first_broken g c ≡ None) ↔ Holds (certified g c) (at c.bounds)
+
+-- from the blueprint on a session answers to `cert` with a certificate of the seat's table and bounds as they stand, and it is one
+abbrev pub SessionCertificateLaw : Type 0
+SessionCertificateLaw = (g : GameModel) → IsAccepted g → (cs : List Command) (s : State) (p : Plays) → Leads (start g) cs s → s.plays ≡ Some p → (seat : ℕ) → IsSeat seat →
+    let c : Certificate = record { seat = seat; weights = table_of p seat; bounds = bounds_of p seat } in
+    IsCertified g c × (step_of s (cert seat) ≡ Ok (s, certificate_text c ∷ []))

@@ -8,6 +8,7 @@ ghost use Rattle.lab_laws.specs.Sessions.{
   CertifiedLaw,
   CertificateLaw,
   BrokenLaw,
+  SessionCertificateLaw,
 };
 
 /// From the blueprint on both seats of a session are guarded, and a command keeps the bounds from rising
@@ -28,9 +29,10 @@ pub fn mended_bounds()
 {}
 
 /// What is certified holds against every reply; a table with its tight bounds is certified; and the
-/// inequalities of a certificate are found to hold exactly where they do.
+/// inequalities of a certificate are found to hold exactly where they do. What a session hands out is certified.
 pub fn certificates()
     ensures bounded { CertifiedLaw }
     ensures tight { CertificateLaw }
     ensures tested { BrokenLaw }
+    ensures handed_out { SessionCertificateLaw }
 {}
