@@ -4,3 +4,5 @@ pub mod SessionWays
 pub mod SessionParts
 pub mod SessionJudging
 pub mod SessionSteps
+pub mod SizeMass
+pub mod SizeRanges
