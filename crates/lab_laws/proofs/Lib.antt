@@ -6,3 +6,4 @@ pub mod SessionJudging
 pub mod SessionSteps
 pub mod SizeMass
 pub mod SizeRanges
+pub mod SizeLimits

@@ -47,9 +47,9 @@ use Rattle.lab_laws.specs.Sizes.{RangeLaw}
 -- ---- sums
 
 -- a sum of numbers that are not negative isn't
-pub total_up : {X : Type 0} (f : X → ℤ) (xs : List X) → ((x : X) → pos 0 ≤ℤ f x) → pos 0 ≤ℤ total f xs
+pub total_up : {X : Type 0} (f : X → ℤ) (xs : List X) → ((x : X) → In x xs → pos 0 ≤ℤ f x) → pos 0 ≤ℤ total f xs
 total_up f [] e = le_of_eq_z (pos 0) (pos 0) refl
-total_up f (x ∷ xs) e = omega (arith, ints, e x, total_up f xs e)
+total_up f (x ∷ xs) e = omega (arith, ints, e x (inl refl), total_up f xs (λ y i. e y (inr i)))
 
 -- the same below n
 pub total_below_up : (n : ℕ) (f : ℕ → ℤ) → ((k : ℕ) → k < n → pos 0 ≤ℤ f k) → pos 0 ≤ℤ total_below n f
@@ -93,7 +93,7 @@ begins_along : (g : GameModel) → game_ok g ≡ true → (seat : ℕ) (h : Hist
 begins_along g ok seat [] i =
     let ends : not (is_world (place_of g [])) ≡ true = (in_from_filter (is_terminal g) (histories g) [] i).1 in
     absurd (both_ways false refl (sym (ap not (game_fine g ok).root) ∙ ends))
-begins_along g ok seat (s ∷ h) i = ap (λ n. eqb n 0) (root_number g seat) 
+begins_along g ok seat (s ∷ h) i = ap (λ n. eqb n 0) (root_number g seat)
 
 -- so does its row
 pub begins_row : (g : GameModel) → game_ok g ≡ true → (seat : ℕ) (h : History) → In h (terminal_histories g) → begins_at (path_of (row_along g h) seat) 0 ≡ true
@@ -126,16 +126,16 @@ module _ (g : GameModel) (ok : IsAccepted g) where
       let hs = terminal_histories g in
       let P = λ (z : Row). (begins_at (path_of z 1) 0 ≡ true) × (deciding (game_actions g 1) (path_of z 1) + pad_of z 1 ≡ factors_in (mass_form g o) 1) in
       All-from_recursion P (map (mass_row g o) hs) (all_from_in P (map (mass_row g o) hs) (λ z j.
-          let r = in_from_map (mass_row g o) hs z j in
-          subst P r.2 (begins_along g ok.good 1 r.0 r.1, row_factors g 1 ((recall_law g).0 ok.recalls).0 r.0 r.1 ∙ sym (factors_are o 1 (inl refl) r.0 r.1))))
+      let r = in_from_map (mass_row g o) hs z j in
+      subst P r.2 (begins_along g ok.good 1 r.0 r.1, row_factors g 1 ((recall_law g).0 ok.recalls).0 r.0 r.1 ∙ sym (factors_are o 1 (inl refl) r.0 r.1))))
 
   padded2 : (o : ℕ) → IsPadded (mass_form g o) 2
   padded2 o =
       let hs = terminal_histories g in
       let P = λ (z : Row). (begins_at (path_of z 2) 0 ≡ true) × (deciding (game_actions g 2) (path_of z 2) + pad_of z 2 ≡ factors_in (mass_form g o) 2) in
       All-from_recursion P (map (mass_row g o) hs) (all_from_in P (map (mass_row g o) hs) (λ z j.
-          let r = in_from_map (mass_row g o) hs z j in
-          subst P r.2 (begins_along g ok.good 2 r.0 r.1, row_factors g 2 ((recall_law g).0 ok.recalls).1 r.0 r.1 ∙ sym (factors_are o 2 (inr refl) r.0 r.1))))
+      let r = in_from_map (mass_row g o) hs z j in
+      subst P r.2 (begins_along g ok.good 2 r.0 r.1, row_factors g 2 ((recall_law g).0 ok.recalls).1 r.0 r.1 ∙ sym (factors_are o 2 (inr refl) r.0 r.1))))
 
 -- ---- the whole
 
@@ -313,11 +313,11 @@ unvisited g keeper table r I ne (h ∷ hs) b e = at (passes_through I p) refl e 
     at false q e later = omega (arith, later e)
 
 -- natural numbers are not negative
-no_less : (n : ℕ) → pos 0 ≤ℤ pos n
+pub no_less : (n : ℕ) → pos 0 ≤ℤ pos n
 no_less n = omega (arith, ints)
 
 -- neither is one of them or nothing
-cond_up : (b : Bool) (x : ℤ) → pos 0 ≤ℤ x → pos 0 ≤ℤ cond b x (pos 0)
+pub cond_up : (b : Bool) (x : ℤ) → pos 0 ≤ℤ x → pos 0 ≤ℤ cond b x (pos 0)
 cond_up true x h = h
 cond_up false x h = no_less 0
 
@@ -342,9 +342,9 @@ module _ (g : GameModel) (ok : IsAccepted g) (keeper : ℕ) (is : IsSeat keeper)
       let hs = terminal_histories g in
       let F = λ (z : Row). cond (is_step (last_step (path_of z (other keeper))) J a) (worth_against masses z) (pos 0) in
       subst (λ x. pos 0 ≤ℤ x) (sym (total-map F (mass_row g (other keeper)) hs))
-      (total_up (λ h. F (mass_row g (other keeper) h)) hs (λ h.
-          cond_up (is_step (last_step (path_of (row_along g h) (other keeper))) J a) (worth_against masses (mass_row g (other keeper) h))
-          (subst (λ x. pos 0 ≤ℤ x) (sym (worth_mass g keeper table h)) (no_less (mass g keeper table h)))))
+      (total_up (λ h. F (mass_row g (other keeper) h)) hs (λ h i.
+      cond_up (is_step (last_step (path_of (row_along g h) (other keeper))) J a) (worth_against masses (mass_row g (other keeper) h))
+      (subst (λ x. pos 0 ≤ℤ x) (sym (worth_mass g keeper table h)) (no_less (mass g keeper table h)))))
 
   -- a set has at most the mass of the one that it follows
   mass_falls : (I : ℕ) → I < length (reply_sets masses) → (t : Taken) → parent_in masses.form.rows (other keeper) I ≡ Some t → t.set < I → t.action < slice_index (reply_sets masses) t.set → heights I ≤ℤ heights t.set
