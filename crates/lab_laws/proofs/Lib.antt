@@ -7,3 +7,6 @@ pub mod SessionJudging
 pub mod SessionSteps
 pub mod SessionMending
 pub mod SessionCertificates
+pub mod SizeMass
+pub mod SizeRanges
+pub mod SizeLimits
