@@ -4,3 +4,4 @@ pub mod SessionWays
 pub mod SessionParts
 pub mod SessionJudging
 pub mod SessionSteps
+pub mod ReplyValues

@@ -1,0 +1,54 @@
+-- Best replies that are computed from the last set back, what a rule's allowances keep, and what gadgets are worth.
+use Rattle.std.specs.Prelude.{◌≡◌, ℕ, zero, suc, ◌-◌, ◌^◌, ◌<◌, ◌≤◌, ℤ, pos, ◌*ℤ◌, ◌≤ℤ◌, ◌+ℤ◌, List, [], ◌∷◌, length, map, if◌then◌else◌, int_le, slice_index}
+use Rattle.std.specs.List.{range_with_len}
+use Rattle.lab_defs_value.specs.Replies.{Strategy, Reply, IsReply, reply_sets, reply_factors, earned}
+use Rattle.lab_defs_value.specs.BestValues.{IsBest, IsChoice, pure_reply, best_value}
+use Rattle.lab_defs_value.specs.Bounds.{at, through, IsBackedUp}
+use Rattle.lab_defs_value.specs.Laws.{Sound}
+
+-- the first of the numbers up to n where h is greatest
+abbrev pub first_greatest : (n : ℕ) → (h : ℕ → ℤ) → ℕ
+first_greatest zero h = 0
+first_greatest (suc n) h = let first = first_greatest n h in if int_le (h (suc n)) (h first) then first else suc n
+
+-- the first action at a set that backs up most
+abbrev pub first_action : Strategy → (ℕ → ℤ) → ℕ → ℕ
+first_action s B J = first_greatest (slice_index (reply_sets s) J - 1) (through s B J)
+
+-- the number of a set in a list that has those of the last sets
+abbrev pub at_last : Strategy → List ℤ → ℕ → ℤ
+at_last s numbers J = at numbers (J - (length (reply_sets s) - length numbers))
+
+-- the values of the last n sets, in set order: each the greatest of what its actions back up, by the values behind it
+abbrev pub last_values : Strategy → (n : ℕ) → List ℤ
+last_values s zero = []
+last_values s (suc n) =
+    let behind = last_values s n in
+    let J = length (reply_sets s) - suc n in
+    through s (at_last s behind) J (first_action s (at_last s behind) J) ∷ behind
+
+-- the values of all sets, from the last set back to the first
+abbrev pub backed_up_values : Strategy → List ℤ
+backed_up_values s = last_values s (length (reply_sets s))
+
+-- the first greatest action at each set
+abbrev pub first_actions : Strategy → List ℕ
+first_actions s = let values = backed_up_values s in map (first_action s (at values)) (range_with_len 0 (length (reply_sets s)))
+
+-- no number up to n is greater than the first greatest one, and those before it are less
+abbrev pub FirstGreatestLaw : Type 0
+FirstGreatestLaw = (n : ℕ) (h : ℕ → ℤ)
+    → (first_greatest n h ≤ n) × ((k : ℕ) → k ≤ n → h k ≤ℤ h (first_greatest n h)) × ((k : ℕ) → k < first_greatest n h → (h k +ℤ pos 1) ≤ℤ h (first_greatest n h))
+
+-- the values backed up from the last set to the first are the best values: no reply earns more, by its number to the factors, and the one pure reply by the first greatest actions earns each of them
+abbrev pub BestRepliesLaw : Type 0
+BestRepliesLaw = (s : Strategy) → Sound s →
+    let values = backed_up_values s in
+    (length values ≡ length (reply_sets s))
+    × IsBackedUp s (at values)
+    × IsChoice (reply_sets s) (first_actions s)
+    × ((I : ℕ) → I < length (reply_sets s)
+    → IsBest s I (at values I)
+    × (at values I ≡ best_value s I)
+    × ((r : Reply) → IsReply (reply_sets s) r → earned s r I ≤ℤ (pos (r.all ^ reply_factors s) *ℤ at values I))
+    × (earned s (pure_reply (first_actions s)) I ≡ at values I))
