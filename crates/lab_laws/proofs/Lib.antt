@@ -5,3 +5,4 @@ pub mod SessionParts
 pub mod SessionJudging
 pub mod SessionSteps
 pub mod ReplyValues
+pub mod RulePaths

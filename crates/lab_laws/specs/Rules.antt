@@ -1,9 +1,13 @@
 -- Best replies that are computed from the last set back, what a rule's allowances keep, and what gadgets are worth.
-use Rattle.std.specs.Prelude.{◌≡◌, ℕ, zero, suc, ◌-◌, ◌^◌, ◌<◌, ◌≤◌, ℤ, pos, ◌*ℤ◌, ◌≤ℤ◌, ◌+ℤ◌, List, [], ◌∷◌, length, map, if◌then◌else◌, int_le, slice_index}
+use Rattle.std.specs.Prelude.{◌≡◌, ℕ, zero, suc, ◌-◌, ◌^◌, ◌<◌, ◌≤◌, ℤ, pos, ◌*ℤ◌, ◌≤ℤ◌, ◌+ℤ◌, ◌-ℤ◌, List, [], ◌∷◌, length, map, filter, nat_lt, true, false, None, if◌then◌else◌, int_le, slice_index}
 use Rattle.std.specs.List.{range_with_len}
+use Rattle.lab_math.specs.Sums.{total, sum_over}
+use Rattle.lab_math.specs.Greatest.{greatest_of}
 use Rattle.lab_defs_value.specs.Replies.{Strategy, Reply, IsReply, reply_sets, reply_factors, earned}
 use Rattle.lab_defs_value.specs.BestValues.{IsBest, IsChoice, pure_reply, best_value}
-use Rattle.lab_defs_value.specs.Bounds.{at, through, IsBackedUp}
+use Rattle.lab_defs_value.specs.Bounds.{at, through, Holds, IsBackedUp}
+use Rattle.lab_defs_value.specs.Allowances.{Rule, lies_on, parent, followers, allowance, Ascends}
+use Rattle.lab_defs_value.specs.Passes.{limit}
 use Rattle.lab_defs_value.specs.Laws.{Sound}
 
 -- the first of the numbers up to n where h is greatest
@@ -52,3 +56,35 @@ BestRepliesLaw = (s : Strategy) → Sound s →
     × (at values I ≡ best_value s I)
     × ((r : Reply) → IsReply (reply_sets s) r → earned s r I ≤ℤ (pos (r.all ^ reply_factors s) *ℤ at values I))
     × (earned s (pure_reply (first_actions s)) I ≡ at values I))
+
+-- ---- the rules
+
+-- what an action backs up where the sets on the path that follow it have values in place of their bounds
+abbrev pub through_along : (s : Strategy) (B : ℕ → ℤ) (path : List ℕ) (V : ℕ → ℤ) (J a : ℕ) → ℤ
+through_along s B path V J a = through s B J a +ℤ total (λ I. V I -ℤ B I) (followers s path J a)
+
+-- the actions of a set that some set on the path follows
+abbrev pub path_actions : (s : Strategy) (path : List ℕ) (J : ℕ) → List ℕ
+path_actions s path J = filter (λ a. nat_lt 0 (length (followers s path J a))) (range_with_len 0 (slice_index (reply_sets s) J))
+
+-- the value that is backed up along the path: the greatest of the set's bound and of what those actions back up
+abbrev pub backed_along : (s : Strategy) (B : ℕ → ℤ) (path : List ℕ) (V : ℕ → ℤ) (J : ℕ) → ℤ
+backed_along s B path V J = greatest_of (B J ∷ map (through_along s B path V J) (path_actions s path J))
+
+-- values of the sets on a path: at those of the node within the limits of a rule, at the others no more than what is backed up
+pub record IsAlong (rule : Rule) (s : Strategy) (B : ℕ → ℤ) (path node : List ℕ) (V : ℕ → ℤ) : Type 0 where
+  pub limits : (I : ℕ) → lies_on node I ≡ true → V I ≤ℤ limit B (allowance rule s B path) I
+  pub backed : (J : ℕ) → lies_on path J ≡ true → lies_on node J ≡ false → V J ≤ℤ backed_along s B path V J
+
+-- by each rule, what an action backs up and the allowances of the sets on the path that follow it are within the limit of its set
+abbrev pub AllowanceLaw : Type 0
+AllowanceLaw = (rule : Rule) (s : Strategy) → Sound s → (B : ℕ → ℤ) → Holds s B → (path : List ℕ) → Ascends 0 (length (reply_sets s)) path
+    → (J a : ℕ) → J < length (reply_sets s) → a < slice_index (reply_sets s) J → 0 < length (followers s path J a)
+    → (through s B J a +ℤ pos (sum_over (allowance rule s B path) (followers s path J a))) ≤ℤ limit B (allowance rule s B path) J
+
+-- so each rule keeps the bounds: where the values at the node are within its limits, those on the path are, and at a set that follows none, as set 0, the value is at most the bound
+abbrev pub RuleLaw : Type 0
+RuleLaw = (rule : Rule) (s : Strategy) → Sound s → (B : ℕ → ℤ) → Holds s B → (path node : List ℕ) → Ascends 0 (length (reply_sets s)) path
+    → (V : ℕ → ℤ) → IsAlong rule s B path node V
+    → (I : ℕ) → lies_on path I ≡ true
+    → (V I ≤ℤ limit B (allowance rule s B path) I) × (parent s I ≡ None → V I ≤ℤ B I) × (I ≡ 0 → V I ≤ℤ B I)
