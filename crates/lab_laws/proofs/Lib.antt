@@ -10,3 +10,5 @@ pub mod SessionCertificates
 pub mod SizeMass
 pub mod SizeRanges
 pub mod SizeLimits
+pub mod ReplyValues
+pub mod RulePaths
