@@ -1,5 +1,5 @@
 -- The lines of a game that are collected from a source, and what stops them.
-use Rattle.std.proofs.Common.{◌≡◌, ℕ, ◌+◌, ◌-◌, ◌≤◌, Bool, true, false, [], ◌∷◌, ◌++◌, length, Option, Result, Ok, Err, IfOk, IfErr, refl, sym, ap, ◌∙◌, subst, arith, length-append, append_assoc}
+use Rattle.std.proofs.Common.{◌≡◌, ℕ, ◌+◌, ◌-◌, ◌≤◌, Bool, true, false, [], ◌∷◌, ◌++◌, length, Option, Result, Ok, Err, IfOk, IfErr, None, Some, refl, sym, ap, ◌∙◌, subst, arith, length-append, append_assoc, append-nil}
 use Rattle.std.specs.Prelude.{IsTrue}
 use Rattle.std.specs.Str.{bytes_eq}
 use Rattle.std.specs.Io.KnownBytes.{Consumes, IsAtEnd}
@@ -9,7 +9,7 @@ use Rattle.lab_io.specs.Reading.{Takes, StoppedAfter, LineStop, IsLine, IsEnd}
 use Rattle.lab_io.specs.declared.line_reader.ReadStop.{ReadStop}
 use Rattle.lab_io.specs.declared.line_reader.ReadStop.TheVariants as read
 use Rattle.lab_io.proofs.Fronts.{Consumes-append}
-use Rattle.lab_io.proofs.Givings.{Takes-append, Takes-all, Takes-none}
+use Rattle.lab_io.proofs.Givings.{Takes-append, Takes-all}
 use Rattle.lab_defs_text.specs.Words.{Bytes, lines}
 use Rattle.lab_defs_report.specs.Refusals.{Refusal, refused}
 use Rattle.lab_defs_report.specs.Cuts.{game_limit, cut_at, cut_refused, cut_from}
@@ -27,10 +27,15 @@ pub record Collected (old : Option Bytes) (ahead : Bytes) (left : Option Bytes) 
   pub cuts : (ended : Bool) (y : Bytes) → cut ended (text ++ y) ≡ cut_from ended n text (lines y)
   pub few : n ≤ length text + 1
 
+-- nothing came where nothing was read
+takes_none : (ahead : Bytes) (left : Option Bytes) → Takes ahead left ahead left []
+takes_none ahead None = record { taken = []; consumed = tt; split = append-nil ahead }
+takes_none ahead (Some bytes) = record { taken = []; consumed = refl; split = append-nil ahead }
+
 -- no line so far
 pub collected_none : (left : Option Bytes) (ahead : Bytes) → ahead ≡ [] → Collected left ahead left [] 1
 collected_none left ahead e = record {
-  takes = subst (λ a. Takes [] left a left []) (sym e) (Takes-none [] left);
+  takes = subst (λ a. Takes [] left a left []) (sym e) (takes_none [] left);
   cuts = λ ended y. refl;
   few = omega arith;
 }
