@@ -7,7 +7,7 @@ mod number;
 mod word;
 
 pub use fault::LexFault;
-pub use names::{NameTable, NoMemory, TableFault};
+pub use names::{NameTable, NoMemory, TableFault, place_of_name};
 pub use number::whole;
 pub use word::{Pieces, name, words};
 

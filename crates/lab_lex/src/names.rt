@@ -122,3 +122,18 @@ fn insert_new(names: &mut IndexSet<String>, name: &str) -> Result<(), NoMemory>
     };
     Ok(())
 }
+
+/// The place of a name in a list, which is walked: for lists that are too short to be worth a table.
+pub fn place_of_name(names: &[String], name: &str) -> Option<u32>
+    requires { length names.now < 2 ^ 32 }
+    ensures { result ≡ position (bytes_eq name.now) (map string_bytes names.now) }
+{
+    let place = first_named(names, name)?;
+    Some(place as u32)
+}
+
+fn first_named(names: &[String], name: &str) -> Option<usize>
+    ensures { result ≡ position (λ k. bytes_eq name.now (string_bytes k)) names.now }
+{
+    names.iter().position(|other| name == other.as_str())
+}

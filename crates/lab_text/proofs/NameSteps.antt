@@ -1,11 +1,11 @@
 -- Names that are added, and names that stand twice.
-use Rattle.std.proofs.Common.{◌≡◌, ℕ, zero, suc, ◌+◌, ◌<◌, Bool, true, List, [], ◌∷◌, ◌++◌, length, get_or, drop, string_bytes, position, Some, None, Ok, Err, ap, sym, ◌∙◌, arith}
+use Rattle.std.proofs.Common.{◌≡◌, ℕ, zero, suc, ◌+◌, ◌<◌, Bool, true, List, [], ◌∷◌, ◌++◌, length, get_or, take, drop, string_bytes, position, Option, Some, None, is_some, Ok, Err, refl, false, ap, sym, ◌∙◌, arith}
 use Rattle.std.specs.Prelude.{String}
 use Rattle.std.specs.Global.{Global}
 use Rattle.std.specs.List.{list_any}
 use Rattle.std.specs.Str.{bytes_eq}
 use Rattle.std.proofs.lemmas.Bool.{cond-true, cond-false, or_left, or_right}
-use Rattle.std.proofs.lemmas.List.{drop_more}
+use Rattle.std.proofs.lemmas.List.{drop_more, take_more, map-append}
 use Rattle.std.proofs.lemmas.List.Quantifiers.{position-Some}
 use Rattle.lab_defs_text.specs.Words.{Bytes, stands_in}
 use Rattle.lab_defs_text.specs.Faults.{twice_at}
@@ -45,3 +45,19 @@ twice_later place before after ns i x n h e f p a =
     ap (λ (bs : List Bytes). first_twice (place + 1) bs (name_list (drop (i + 1) ns))) (a ∙ ap (λ (m : Bytes). before ++ m ∷ []) f)
     ∙ sym (ap (λ (ys : List (String Global)). first_twice place before (name_list ys)) (drop_more ns i x h ∙ ap (λ (y : String Global). y ∷ drop (i + 1) ns) (sym e))
     ∙ cond-false (stands_in (string_bytes x) before) place (first_twice (place + 1) (before ++ string_bytes x ∷ []) (name_list (drop (i + 1) ns))) (ap (λ (m : Bytes). stands_in m before) (sym f) ∙ list_any-from_None (bytes_eq n) before p))
+
+-- the names up to a place are those before it, and that at it
+pub names_up_to : (ns : List (String Global)) (i : ℕ) (x : String Global) (n : Bytes) → i < length ns → x ≡ get_or ns i x → n ≡ string_bytes x → name_list (take (i + 1) ns) ≡ name_list (take i ns) ++ n ∷ []
+names_up_to ns i x n h e f =
+    ap name_list (take_more ns i x h ∙ ap (λ (y : String Global). take i ns ++ y ∷ []) (sym e)) ∙ map-append string_bytes (take i ns) (x ∷ []) ∙ ap (λ (m : Bytes). name_list (take i ns) ++ m ∷ []) (sym f)
+
+-- the name at a place stands before it, as a search tells
+pub twice_where_found : (place : ℕ) (before : List Bytes) (ns : List (String Global)) (i : ℕ) (x : String Global) (n : Bytes) (found : Option ℕ) → i < length ns → x ≡ get_or ns i x → n ≡ string_bytes x
+    → found ≡ position (bytes_eq n) before → is_some found ≡ true → first_twice place before (name_list (drop i ns)) ≡ place
+twice_where_found place before ns i x n None h e f p t = absurd cc
+twice_where_found place before ns i x n (Some k) h e f p t = twice_here place before ns i x n k h e f (sym p)
+
+-- likewise that it is new
+pub found_nowhere : (found : Option ℕ) → is_some found ≡ false → found ≡ None
+found_nowhere None t = refl
+found_nowhere (Some k) t = absurd cc

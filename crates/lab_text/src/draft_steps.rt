@@ -9,7 +9,7 @@ ghost use Rattle.lab_text.specs.Drafts.{draft_is, name_list, Closed, whole_row, 
 use crate::draft::{Draft, OpenRow, OpenWorld};
 use crate::line_fault::LineFault;
 use crate::line_kind::LineKind;
-use lab_lex::{NameTable, NoMemory, TableFault};
+use lab_lex::{NameTable, NoMemory, TableFault, place_of_name};
 use lab_seq::Seq;
 use lab_world::{PartPlace, PartRow, Recall};
 use std::alloc::{AllocError, Global};
@@ -109,8 +109,31 @@ pub fn add_name(names: &mut NameTable, name: &str) -> Result<(), LineFault>
     }
 }
 
-/// The first place of a name that stands before it, where the first name has place 2; 0 where there is none.
+/// The first place of a name that stands before it, where the first name has place 2; 0 where there is none. The names of a
+/// short list are compared in pairs, those of a longer one put into a table.
 pub fn twice_place(alloc: Global, names: &[String]) -> Result<u32, NoMemory>
+    requires { length names.now + 1 < 2 ^ 32 }
+    ensures { IfOk result (λ place. place ≡ first_twice 2 [] (name_list names.now)) }
+{
+    if names.len() <= 16 {
+        return Ok(twice_in_pairs(names));
+    }
+    twice_in_table(alloc, names)
+}
+
+fn twice_in_pairs(names: &[String]) -> u32
+    requires { length names.now + 1 < 2 ^ 32 }
+    ensures { result ≡ first_twice 2 [] (name_list names.now) }
+{
+    for i in 0..names.len() {
+        if place_of_name(&names[..i], names[i].as_str()).is_some() {
+            return i as u32 + 2;
+        }
+    }
+    0
+}
+
+fn twice_in_table(alloc: Global, names: &[String]) -> Result<u32, NoMemory>
     requires { length names.now + 1 < 2 ^ 32 }
     ensures { IfOk result (λ place. place ≡ first_twice 2 [] (name_list names.now)) }
 {

@@ -1,5 +1,5 @@
 //! The words of a line, and what a word at a place must be. Places count from 1, and the first word tells the kind of the line.
-ghost use Rattle.std.specs.Prelude.{◌≡◌, ◌≤◌, ◌<◌, ◌+◌, ◌^◌, ◌==◌, length, vec_len, int_le, ◌&&◌, IfOk, true, Ok, Err, if◌then◌else◌};
+ghost use Rattle.std.specs.Prelude.{◌≡◌, ◌≤◌, ◌<◌, ◌+◌, ◌^◌, ◌==◌, length, vec_len, int_le, ◌&&◌, IfOk, OnOk, true, Ok, Err, if◌then◌else◌};
 ghost use Rattle.lab_defs_text.specs.Agreement.{Agrees};
 ghost use Rattle.lab_defs_text.specs.Faults.{lexical, bad_space_at};
 ghost use Rattle.lab_defs_text.specs.Words.{words as words_of, first_empty};
@@ -18,12 +18,24 @@ pub fn all_words<'a>(alloc: Global, line: &'a [u8]) -> Result<Vec<&'a [u8]>, Lin
         (if first_empty 1 (words_of line.now) == 0 then Ok (words_of line.now) else Err (lexical (bad_space_at (first_empty 1 (words_of line.now))))) }
     ensures few { IfOk result (λ v. vec_len v ≤ length line.now + 1) }
 {
-    let pieces = words(line)?;
     let mut found = Vec::new(alloc);
+    fill_words(&mut found, line)?;
+    Ok(found)
+}
+
+/// Makes a list that of the words of a line, whatever it was before; so one list serves line after line.
+pub fn fill_words<'a>(found: &mut Vec<&'a [u8]>, line: &'a [u8]) -> Result<(), LineFault>
+    requires { length line.now < 2 ^ 32 }
+    ensures words { Agrees (λ _. pieces found.new.items) line_fault result
+        (if first_empty 1 (words_of line.now) == 0 then Ok (words_of line.now) else Err (lexical (bad_space_at (first_empty 1 (words_of line.now))))) }
+    ensures few { OnOk result (vec_len found.new ≤ length line.now + 1) }
+{
+    let pieces = words(line)?;
+    found.clear();
     for word in pieces {
         found.push(word)?;
     }
-    Ok(found)
+    Ok(())
 }
 
 /// No word behind the first one.

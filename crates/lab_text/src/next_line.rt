@@ -10,25 +10,26 @@ use crate::head_lines::{done_line, grid_line, head_line, horizon_line, memory_li
 use crate::keywords::kind_in;
 use crate::line_fault::LineFault;
 use crate::line_kind::LineKind;
-use crate::line_words::all_words;
+use crate::line_words::fill_words;
 use crate::place_lines::{end_line, root_line, world_line};
 use crate::row_lines::{one_line, outcome_line, row_line, two_line};
 use std::alloc::Global;
 
-/// Reads the line with a number, behind a line of the last kind, and answers its kind.
-pub fn take_line(
+/// Reads the line with a number, behind a line of the last kind, and answers its kind; `words` becomes the list of its words.
+pub fn take_line<'a>(
     alloc: Global,
+    words: &mut Vec<&'a [u8]>,
     draft: &mut Draft,
     last: LineKind,
     line: u32,
-    bytes: &[u8],
+    bytes: &'a [u8],
 ) -> Result<LineKind, LineFault>
     requires short { length bytes.now + 1 < 2 ^ 32 }
     requires counts { Counts line last draft.old }
     ensures line { Agrees (λ k. (kind_is k, draft_is draft.new)) line_fault result (stepped line last draft.old bytes.now) }
     ensures counts { IfOk result (λ k. Counts (line + 1) k draft.new) }
 {
-    let words = all_words(alloc, bytes)?;
+    fill_words(words, bytes)?;
     let Some((first, rest)) = words.split_first() else {
         return Err(LineFault::BadWord { place: 1 });
     };

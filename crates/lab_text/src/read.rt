@@ -55,8 +55,9 @@ fn read_lines(alloc: Global, draft: &mut Draft, bytes: &[u8]) -> Result<(), Text
     let mut last = LineKind::Start;
     let mut line = 1;
     let mut rest = bytes;
+    let mut words = Vec::new(alloc);
     while let Some((bytes, after)) = first_line(rest) {
-        last = match take_line(alloc, draft, last, line, bytes) {
+        last = match take_line(alloc, &mut words, draft, last, line, bytes) {
             Ok(kind) => kind,
             Err(fault) => return Err(on_line(line, fault)),
         };

@@ -4,3 +4,4 @@ pub mod OrderLemmas
 pub mod PartLemmas
 pub mod PlaceLemmas
 pub mod RowLemmas
+pub mod SearchLemmas

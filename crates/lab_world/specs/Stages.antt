@@ -42,7 +42,7 @@ numbered_rows (k ∷ ks) (os ∷ oss) = record { number = k; outcomes = outcomes
 numbered_rows _ _ = []
 
 abbrev pub placed_rows_of : PlacedRows → List assembly.PlacedRow
-placed_rows_of p = numbered_rows p.numbers.keys p.outcomes.items
+placed_rows_of p = numbered_rows p.numbers p.outcomes.items
 
 -- rows by their joint actions and one more, whose joint action is new
 abbrev pub with_row : List Bytes → List Bytes → List assembly.PlacedRow → assembly.KnownRow → Result (List assembly.PlacedRow) TextFault

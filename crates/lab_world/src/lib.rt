@@ -4,6 +4,8 @@
 mod assemble;
 mod game;
 mod known;
+mod name_list;
+mod number_set;
 mod numbered;
 mod ordered;
 mod parts;

@@ -122,7 +122,7 @@ fn take_row(alloc: Global, left: &mut PlacedRows, number: u64) -> Option<Seq<Out
     ensures taken { option_map outcomes_model result ≡ row_of number (placed_rows_of left.old) }
     ensures others { (k : ℕ) → k ≢ number → row_of k (placed_rows_of left.new) ≡ row_of k (placed_rows_of left.old) }
 {
-    let at = left.numbers.get_index_of(&number)?;
+    let at = left.numbers.find(number)?;
     take_at(alloc, &mut left.outcomes, at)
 }
 

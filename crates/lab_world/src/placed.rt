@@ -15,10 +15,11 @@ ghost use Rattle.lab_world.specs.Stages.{
   with_row,
 };
 
+use super::name_list::NameList;
+use super::number_set::NumberSet;
 use super::parts::AssembleFault;
 use super::place::Outcome;
 use super::stages::{KnownPlace, KnownRow, PlacedPlace, PlacedRows};
-use indexmap::IndexSet;
 use lab_lex::{NameTable, TableFault};
 use lab_seq::Seq;
 use std::alloc::{AllocError, Global};
@@ -49,9 +50,7 @@ fn placed_place(alloc: Global, place: KnownPlace) -> Result<PlacedPlace, Assembl
             two,
             rows,
         } => {
-            let firsts = table_of(alloc, one.as_slice())?;
-            let seconds = table_of(alloc, two.as_slice())?;
-            let rows = place_rows(alloc, &firsts, &seconds, rows.into_vec())?;
+            let rows = rows_in_world(alloc, one.as_slice(), two.as_slice(), rows.into_vec())?;
             Ok(PlacedPlace::World {
                 line,
                 one,
@@ -63,8 +62,24 @@ fn placed_place(alloc: Global, place: KnownPlace) -> Result<PlacedPlace, Assembl
     }
 }
 
-// A table of names, none of which stands twice.
-fn table_of(alloc: Global, names: &[String]) -> Result<NameTable, AllocError>
+// The rows of a world by its actions.
+fn rows_in_world(
+    alloc: Global,
+    one: &[String],
+    two: &[String],
+    rows: Vec<KnownRow>,
+) -> Result<PlacedRows, AssembleFault>
+    requires one { apart_after [] (map string_bytes one.now) ≡ true }
+    requires two { apart_after [] (map string_bytes two.now) ≡ true }
+    ensures { Agrees placed_rows_of assemble_fault result (rows_placed (map string_bytes one.now) (map string_bytes two.now) [] (map known_row_of rows.items)) }
+{
+    let one = NameList::new(alloc, one)?;
+    let two = NameList::new(alloc, two)?;
+    place_rows(alloc, &one, &two, rows)
+}
+
+/// A table of names, none of which stands twice.
+pub fn table_of(alloc: Global, names: &[String]) -> Result<NameTable, AllocError>
     requires { apart_after [] (map string_bytes names.now) ≡ true }
     ensures { IfOk result (λ t. t ≡ map string_bytes names.now) }
 {
@@ -86,14 +101,14 @@ fn table_of(alloc: Global, names: &[String]) -> Result<NameTable, AllocError>
 
 fn place_rows(
     alloc: Global,
-    one: &NameTable,
-    two: &NameTable,
+    one: &NameList<'_>,
+    two: &NameList<'_>,
     rows: Vec<KnownRow>,
 ) -> Result<PlacedRows, AssembleFault>
     ensures { Agrees placed_rows_of assemble_fault result (rows_placed one.now two.now [] (map known_row_of rows.items)) }
 {
     let mut found = PlacedRows {
-        numbers: IndexSet::new(alloc),
+        numbers: NumberSet::new(alloc),
         outcomes: Vec::new(alloc),
     };
     for row in rows {
@@ -105,25 +120,29 @@ fn place_rows(
 // Adds a row, if its joint action has none.
 fn place_row(
     found: &mut PlacedRows,
-    one: &NameTable,
-    two: &NameTable,
+    one: &NameList<'_>,
+    two: &NameList<'_>,
     row: KnownRow,
 ) -> Result<(), AssembleFault>
-    requires even { length found.old.numbers.keys ≡ length found.old.outcomes.items }
+    requires even { length found.old.numbers ≡ length found.old.outcomes.items }
     ensures row { Agrees (λ _. placed_rows_of found.new) assemble_fault result (with_row one.now two.now (placed_rows_of found.old) (known_row_of row)) }
-    ensures even { OnOk result (length found.new.numbers.keys ≡ length found.new.outcomes.items) }
+    ensures even { OnOk result (length found.new.numbers ≡ length found.new.outcomes.items) }
 {
     let number = joint_action(one, two, &row)?;
-    if found.numbers.contains(&number) {
+    if found.numbers.contains(number) {
         return Err(AssembleFault::ExtraRow { line: row.line });
     }
-    found.numbers.insert(number)?;
+    found.numbers.add(number)?;
     found.outcomes.push(row.outcomes)?;
     Ok(())
 }
 
 // The number of a row's joint action.
-fn joint_action(one: &NameTable, two: &NameTable, row: &KnownRow) -> Result<u64, AssembleFault>
+fn joint_action(
+    one: &NameList<'_>,
+    two: &NameList<'_>,
+    row: &KnownRow,
+) -> Result<u64, AssembleFault>
     ensures { Agrees (λ n. n) assemble_fault result (action_of one.now two.now (known_row_of row.now)) }
 {
     let (Some(first), Some(second)) = (one.find(row.first.as_str()), two.find(row.second.as_str()))

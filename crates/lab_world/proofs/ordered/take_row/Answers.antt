@@ -9,16 +9,16 @@ use Rattle.lab_world.proofs.ordered.take_row.Goals as goal
 pub returns-in_err-at-clause-taken : goal.returns-in_err-at-clause-taken
 returns-in_err-at-clause-taken c =
     let none : c.from_residual.result ≡ None = search rules in
-    let nowhere : position (nat_eq c.args.number) c.args.left.now.numbers.keys ≡ None = search rules in
-    ap (option_map outcomes_model) none ∙ sym (row_none c.args.number c.args.left.now.numbers.keys c.args.left.now.outcomes.items nowhere)
+    let nowhere : position (nat_eq c.args.number) c.args.left.now.numbers ≡ None = search rules in
+    ap (option_map outcomes_model) none ∙ sym (row_none c.args.number c.args.left.now.numbers c.args.left.now.outcomes.items nowhere)
 
 pub returns-clause-taken : goal.returns-clause-taken
 returns-clause-taken c =
-    let at : position (nat_eq c.args.number) c.args.left.now.numbers.keys ≡ Some c.in_ok-at.at = search rules in
-    ap (option_map outcomes_model) c.take_at.ensures.taken ∙ (row_taken c.args.number c.in_ok-at.at c.args.left.now.numbers.keys c.args.left.now.outcomes.items at).taken
+    let at : position (nat_eq c.args.number) c.args.left.now.numbers ≡ Some c.in_ok-at.at = search rules in
+    ap (option_map outcomes_model) c.take_at.ensures.taken ∙ (row_taken c.args.number c.in_ok-at.at c.args.left.now.numbers c.args.left.now.outcomes.items at).taken
 
 pub returns-clause-others : goal.returns-clause-others
 returns-clause-others c k ne =
-    let at : position (nat_eq c.args.number) c.args.left.now.numbers.keys ≡ Some c.in_ok-at.at = search rules in
-    ap (λ (oss : List (List Outcome)). row_of k (numbered_rows c.args.left.now.numbers.keys oss)) c.take_at.ensures.others
-    ∙ (row_taken c.args.number c.in_ok-at.at c.args.left.now.numbers.keys c.args.left.now.outcomes.items at).others k ne
+    let at : position (nat_eq c.args.number) c.args.left.now.numbers ≡ Some c.in_ok-at.at = search rules in
+    ap (λ (oss : List (List Outcome)). row_of k (numbered_rows c.args.left.now.numbers oss)) c.take_at.ensures.others
+    ∙ (row_taken c.args.number c.in_ok-at.at c.args.left.now.numbers c.args.left.now.outcomes.items at).others k ne

@@ -8,5 +8,5 @@ use Rattle.lab_world.proofs.placed.place_rows.Given as goal
 abbrev pub invariant-loop-row : goal.invariant-loop-row
 invariant-loop-row l = record {
   made : rows_on l.one l.two (placed_rows_of l.found) (map known_row_of (into_iter_items l.row-iterator)) ≡ place_rows l.one l.two [] (map known_row_of l.fn.rows.items);
-  even : length l.found.numbers.keys ≡ length l.found.outcomes.items;
+  even : length l.found.numbers ≡ length l.found.outcomes.items;
 }

@@ -1,7 +1,7 @@
 use Rattle.std.proofs.Common.{◌≡◌, ◌+◌, drop, length, []}
 use Rattle.lab_defs_text.specs.Drafts.{first_twice}
 use Rattle.lab_text.specs.Drafts.{name_list}
-use Rattle.lab_text.proofs.draft_steps.twice_place.Given as goal
+use Rattle.lab_text.proofs.draft_steps.twice_in_table.Given as goal
 
 abbrev pub invariant-loop-i : goal.invariant-loop-i
 invariant-loop-i l = record {

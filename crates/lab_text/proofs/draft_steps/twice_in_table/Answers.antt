@@ -2,7 +2,7 @@ use Rattle.std.proofs.Common.{◌∷◌, [], ◌≡◌, ◌+◌, ap, sym, ◌∙
 use Rattle.lab_defs_text.specs.Drafts.{first_twice}
 use Rattle.lab_text.specs.Drafts.{name_list}
 use Rattle.lab_text.proofs.NameSteps.{twice_here, twice_later}
-use Rattle.lab_text.proofs.draft_steps.twice_place.Goals as goal
+use Rattle.lab_text.proofs.draft_steps.twice_in_table.Goals as goal
 
 pub returns-in-Err-Twice : goal.returns-in-Err-Twice
 returns-in-Err-Twice c =

@@ -5,7 +5,7 @@ use Rattle.std.proofs.lemmas.List.Sums.{count_by-le-length}
 use Rattle.std.proofs.lemmas.List.Splits.{length-slice_split}
 use Rattle.lab_defs_text.specs.Words.{words}
 use Rattle.lab_text.specs.Drafts.{pieces}
-use Rattle.lab_text.proofs.line_words.all_words.Goals as goal
+use Rattle.lab_text.proofs.line_words.fill_words.Goals as goal
 
 pub returns-clause-few : goal.returns-clause-few
 returns-clause-few c =
