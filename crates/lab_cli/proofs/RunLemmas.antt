@@ -1,32 +1,22 @@
 -- What a run tells, by how it ended.
-use Rattle.std.proofs.Common.{◌≡◌, ◌≢◌, ℕ, ◌<◌, Bool, true, false, List, [], ◌++◌, length, Option, None, Some, IfSome, is_some, is_none, length-append, refl, sym, ap, subst, ◌∙◌, arith, append-nil, inl, inr, ◌⊎◌}
-use Rattle.std.specs.Io.KnownBytes.{Appends, Consumes, IsAtEnd}
+use Rattle.std.proofs.Common.{◌≡◌, ◌≢◌, ℕ, Bool, true, false, List, [], ◌∷◌, ◌++◌, Option, None, Some, IfSome, Result, Ok, Err, refl, sym, ap, subst, ◌∙◌, append-nil, inl, inr, ◌⊎◌}
+use Rattle.std.specs.Prelude.{IsTrue, not}
+use Rattle.std.specs.Global.{Vec}
+use Rattle.std.specs.Io.KnownBytes.{Appends}
 use Rattle.lab_io.specs.Causes.{Rose}
-use Rattle.lab_io.specs.Reading.{StoppedAfter}
-use Rattle.lab_io.specs.declared.line_reader.ReadStop.{ReadStop}
-use Rattle.lab_io.specs.declared.line_reader.ReadStop.TheVariants.{AllowancePassed}
 use Rattle.lab_defs_text.specs.Words.{Bytes}
-use Rattle.lab_defs_text.specs.Games.{GameModel}
-use Rattle.lab_defs_report.specs.Plain.{is_plain}
-use Rattle.lab_defs_report.specs.Sketch.{plain_input}
-use Rattle.lab_defs_report.specs.Reports.{report_of, replies_of, is_refused, is_session, usage_line, refusal, answer_of, longest_input}
-use Rattle.lab_defs_report.proofs.PlainLaw.{plain_found}
-use Rattle.lab_defs_report.proofs.LimitLaws.{long_not_plain, too_long}
-use Rattle.lab_world.specs.Games.{game_model}
-use Rattle.lab_cli.specs.declared.plain.PlainInput.{PlainInput}
+use Rattle.lab_defs_report.specs.Answers.{Answer, answer}
+use Rattle.lab_defs_report.specs.Modes.{Mode, usage_line}
+use Rattle.lab_defs_report.specs.Laws.{IsFront}
+use Rattle.lab_defs_report.specs.Reports.{built_answer, built_mode, report_of, replies_of, is_refused}
+use Rattle.lab_defs_report.proofs.FrontLemmas.{Stays, answer_stays}
 use Rattle.lab_cli.specs.declared.status.Status.{Status}
-use Rattle.lab_cli.specs.declared.status.Status.TheVariants.{Done, BadWords, Refused, Memory, WriteFault}
-use Rattle.lab_cli.specs.Runs.{EndsAs, Tells, IsAnswer, good_status}
-use Rattle.lab_cli.specs.Writes.{Writes}
-
--- a game that was found is plain
-pub found_plain : (input : Bytes) (p : PlainInput) → Some (game_model p.game, p.commands) ≡ plain_input input → is_plain (game_model p.game) ≡ true
-found_plain input p e = (plain_found input (game_model p.game) p.commands (sym e)).plain
-
--- what was written for an input as it was found to be
-pub writes_found : (a b : Option Bytes) (f k : ℕ) (input : Bytes) (found : Option (GameModel × ℕ)) (s : Status) → found ≡ plain_input input
-    → Writes a b f k (answer_of found) (good_status found) s → Writes a b f k (answer_of (plain_input input)) (good_status (plain_input input)) s
-writes_found a b f k input found s e w = subst (λ x. Writes a b f k (answer_of x) (good_status x) s) e w
+use Rattle.lab_cli.specs.declared.status.Status.TheVariants.{Done, BadWords, Refused, Memory, ReadFault, WriteFault}
+use Rattle.lab_cli.specs.declared.stop.Stop.{Stop}
+use Rattle.lab_cli.specs.declared.stop.Stop.TheVariants as stop
+use Rattle.lab_cli.specs.Runs.{EndsAs, Tells, IsAnswer}
+use Rattle.lab_cli.specs.Stops.{Says, Found, Advances}
+use Rattle.lab_cli.specs.Writes.{Writes, answer_text, answer_status}
 
 -- ---- statuses
 
@@ -35,56 +25,77 @@ abbrev pub Kind : (s good : Status) (written whole : Bytes) (R : Type 0) → Typ
 Kind s good written whole R = ((s ≡ good) × (written ≡ whole)) ⊎ (((s ≡ WriteFault) × R) ⊎ (s ≡ Memory))
 
 -- no status but these three
-pub no_other : (s good t : Status) (written whole : Bytes) (R : Type 0) → Kind s good written whole R → good ≢ t → WriteFault ≢ t → Memory ≢ t → s ≢ t
+no_other : (s good t : Status) (written whole : Bytes) (R : Type 0) → Kind s good written whole R → good ≢ t → WriteFault ≢ t → Memory ≢ t → s ≢ t
 no_other s good t written whole R (inl p) a b c e = a (sym p.0 ∙ e)
 no_other s good t written whole R (inr (inl p)) a b c e = b (sym p.0 ∙ e)
 no_other s good t written whole R (inr (inr p)) a b c e = c (sym p ∙ e)
 
 -- a fault of the sink has its cause
-pub fault_cause : (s good : Status) (written whole : Bytes) (R : Type 0) → Kind s good written whole R → good ≢ WriteFault → s ≡ WriteFault → R
+fault_cause : (s good : Status) (written whole : Bytes) (R : Type 0) → Kind s good written whole R → good ≢ WriteFault → s ≡ WriteFault → R
 fault_cause s good written whole R (inl p) a e = absurd (a (sym p.0 ∙ e))
 fault_cause s good written whole R (inr (inl p)) a e = p.1
 fault_cause s good written whole R (inr (inr p)) a e = let same : Memory ≡ WriteFault = sym p ∙ e in absurd cc
-
--- an input that is answered as a whole is done or refused
-pub good_is_not : (o : Option (GameModel × ℕ)) (t : Status) → Done ≢ t → Refused ≢ t → good_status o ≢ t
-good_is_not None t a b = b
-good_is_not (Some p) t a b = a
 
 ends_as : (s good : Status) (ws : List Bytes) (input written whole : Bytes) (R : Type 0) → Kind s good written whole R → (written ≡ whole → EndsAs good ws input written) → EndsAs s ws input written
 ends_as s good ws input written whole R (inl p) h = subst (λ x. EndsAs x ws input written) (sym p.0) (h p.1)
 ends_as s good ws input written whole R (inr (inl p)) h = subst (λ x. EndsAs x ws input written) (sym p.0) tt
 ends_as s good ws input written whole R (inr (inr p)) h = subst (λ x. EndsAs x ws input written) (sym p) tt
 
+-- the status of an answer that was written whole: by whether it is refused
+abbrev pub IsStatusOf : Status → Answer → Type 0
+IsStatusOf Done a = a.refuses ≡ false
+IsStatusOf Refused a = a.refuses ≡ true
+IsStatusOf _ a = ⊥
+
 -- ---- reports
 
-report_no_mode : (ws : List Bytes) (input : Bytes) → is_session ws ≡ false → report_of ws input ≡ usage_line
-report_no_mode ws input e = rw e refl
+-- the bytes that were read are known by whether the source was read to its end
+at_end_by : (ended : Bool) (left : Bytes) (refuses : Bool) → (IsTrue ended → left ≡ []) → (IsTrue (not ended) → refuses ≡ true) → refuses ≡ false → left ≡ []
+at_end_by true left refuses e h r = e refl
+at_end_by false left refuses e h r = let no : true ≡ false = sym (h refl) ∙ r in absurd cc
 
-replies_no_mode : (ws : List Bytes) (input : Bytes) → is_session ws ≡ false → replies_of ws input ≡ usage_line
-replies_no_mode ws input e = rw e refl
+stays_known : (a b c : Answer) → Stays b c → b ≡ a → a.refuses ≡ true → c ≡ a
+stays_known a b c (inl e) s r = let no : false ≡ true = ap (λ (x : Answer). x.refuses) (sym e ∙ s) ∙ r in absurd cc
+stays_known a b c (inr e) s r = e ∙ s
 
-report_mode : (ws : List Bytes) (input : Bytes) → is_session ws ≡ true → report_of ws input ≡ answer_of (plain_input input)
-report_mode ws input e = rw e refl
+-- the answer to the whole input
+whole_answer : (m : Option Mode) (taken left : Bytes) (a : Answer) (ended : Bool) → (IsTrue ended → left ≡ []) → built_answer ended taken m ≡ a → (IsTrue (not ended) → a.refuses ≡ true)
+    → built_answer true (taken ++ left) m ≡ a
+whole_answer m taken left a true e s h = ap (λ x. built_answer true x m) (ap (λ x. taken ++ x) (e refl) ∙ append-nil taken) ∙ s
+whole_answer m taken left a false e s h = stays_known a (built_answer false taken m) (built_answer true (taken ++ left) m) (answer_stays true m taken left) s (h refl)
 
-refused_mode : (ws : List Bytes) (input : Bytes) → is_session ws ≡ true → is_refused ws input ≡ is_none (plain_input input)
-refused_mode ws input e = rw e refl
+-- the answer to the bytes that were taken, where some were left
+early_answer : (m : Option Mode) (taken left : Bytes) (a : Answer) (ended : Bool) → (IsTrue ended → left ≡ []) → built_answer ended taken m ≡ a → left ≢ [] → built_answer false taken m ≡ a
+early_answer m taken left a true e s n = absurd (n (e refl))
+early_answer m taken left a false e s n = s
 
-none_from : (o : Option (GameModel × ℕ)) → is_some o ≡ false → o ≡ None
-none_from None e = refl
-none_from (Some p) e = absurd cc
+ends_good : (good : Status) (a : Answer) (ws : List Bytes) (input written : Bytes) → IsStatusOf good a → built_answer true input (built_mode ws) ≡ a → written ≡ a.out → EndsAs good ws input written
+ends_good Done a ws input written h e w = (w ∙ ap (λ (x : Answer). x.out) (sym e), ap (λ (x : Answer). x.refuses) e ∙ h)
+ends_good Refused a ws input written h e w = (w ∙ ap (λ (x : Answer). x.out) (sym e), ap (λ (x : Answer). x.refuses) e ∙ h)
+ends_good BadWords a ws input written h e w = absurd h
+ends_good Memory a ws input written h e w = absurd h
+ends_good ReadFault a ws input written h e w = absurd h
+ends_good WriteFault a ws input written h e w = absurd h
 
--- more bytes than a plain input has are refused, whatever follows them
-long_not_found : (taken left : Bytes) → longest_input < length taken → plain_input (taken ++ left) ≡ None
-long_not_found taken left l = none_from (plain_input (taken ++ left)) (long_not_plain (taken ++ left) (omega (arith, l, length-append taken left)))
+front_of_same : (written out other : Bytes) → IsFront written out → other ≡ out → IsFront written other
+front_of_same written out other f e = (f.0, e ∙ f.1)
 
-long_replies : (ws : List Bytes) (taken : Bytes) → is_session ws ≡ true → longest_input < length taken → replies_of ws taken ≡ refusal
-long_replies ws taken e l = rw (e, too_long taken l) refl
+-- a refused answer is not done
+done_reads_all : (s good : Status) (a : Answer) (written : Bytes) (R : Type 0) (left : Bytes) → Kind s good written a.out R → IsStatusOf good a → (a.refuses ≡ false → left ≡ []) → s ≡ Done → left ≡ []
+done_reads_all s good a written R left (inl p) h f e = f (subst (λ x. IsStatusOf x a) (sym p.0 ∙ e) h)
+done_reads_all s good a written R left (inr (inl p)) h f e = let no : WriteFault ≡ Done = sym p.0 ∙ e in absurd cc
+done_reads_all s good a written R left (inr (inr p)) h f e = let no : Memory ≡ Done = sym p ∙ e in absurd cc
 
 -- ---- what a run tells
 
+report_no_mode : (ws : List Bytes) (input : Bytes) → built_mode ws ≡ None → report_of ws input ≡ usage_line
+report_no_mode ws input e = rw (report_of, e) refl
+
+replies_no_mode : (ws : List Bytes) (input : Bytes) → built_mode ws ≡ None → replies_of ws input ≡ usage_line
+replies_no_mode ws input e = rw (replies_of, e) refl
+
 -- words that are no mode are answered with the usage line
-pub tells_rejected : (ws : List Bytes) (left before after : Option Bytes) (f k : ℕ) (s : Status) → is_session ws ≡ false → Writes before after f k usage_line BadWords s → Tells s ws left left before after
+pub tells_rejected : (ws : List Bytes) (left before after : Option Bytes) (f k : ℕ) (s : Status) → built_mode ws ≡ None → Writes before after f k usage_line BadWords s → Tells s ws left left before after
 tells_rejected ws None before after f k s e w = tt
 tells_rejected ws (Some input) before after f k s e w = (
   [],
@@ -92,90 +103,105 @@ tells_rejected ws (Some input) before after f k s e w = (
   refl,
   w.appended,
   record {
-    front = (w.front.0, report_no_mode ws ([] ++ input) e ∙ w.front.1);
-    early = λ _. (w.front.0, replies_no_mode ws [] e ∙ w.front.1);
+    front = front_of_same w.written usage_line _ w.front (report_no_mode ws ([] ++ input) e);
+    early = λ _. front_of_same w.written usage_line _ w.front (replies_no_mode ws [] e);
     ends = ends_as s BadWords ws ([] ++ input) w.written usage_line _ w.kind (λ _. tt);
     to_the_end = λ d. absurd (no_other s BadWords Done w.written usage_line _ w.kind (λ x. cc) (λ x. cc) (λ x. cc) d);
   },
 )
 
-ends_good : (o : Option (GameModel × ℕ)) (ws : List Bytes) (input written : Bytes) → written ≡ report_of ws input → is_refused ws input ≡ is_none o → EndsAs (good_status o) ws input written
-ends_good None ws input written p q = (p, q)
-ends_good (Some x) ws input written p q = (p, q)
-
--- an input that was read to its end is answered with its report
-pub tells_answered : (ws : List Bytes) (bytes : Bytes) (l m before after : Option Bytes) (f k : ℕ) (s : Status) → is_session ws ≡ true → Consumes l m bytes → IsAtEnd m
-    → Writes before after f k (answer_of (plain_input bytes)) (good_status (plain_input bytes)) s → Tells s ws l m before after
-tells_answered ws bytes None m before after f k s e c d w = tt
-tells_answered ws bytes (Some input) None before after f k s e c d w = elim c [ ]
-tells_answered ws bytes (Some input) (Some left) before after f k s e c d w =
-    let same : bytes ++ left ≡ bytes = ap (λ x. bytes ++ x) d ∙ append-nil bytes in
-    let whole : report_of ws (bytes ++ left) ≡ answer_of (plain_input bytes) = ap (report_of ws) same ∙ report_mode ws bytes e in (
-      bytes,
+-- an answer that is known of the bytes that were taken
+tells_known : (ws : List Bytes) (m : Mode) (l n before after : Option Bytes) (f k : ℕ) (s good : Status) (a : Answer) → built_mode ws ≡ Some m → Found (Some m) l n a → IsStatusOf good a
+    → Writes before after f k a.out good s → Tells s ws l n before after
+tells_known ws m None n before after f k s good a e h st w = tt
+tells_known ws m (Some input) None before after f k s good a e h st w = elim h.consumed [ ]
+tells_known ws m (Some input) (Some left) before after f k s good a e h st w =
+    let whole : built_answer true (h.taken ++ left) (built_mode ws) ≡ a = rw e (whole_answer (Some m) h.taken left a h.ended h.at_end h.same h.early) in (
+      h.taken,
       w.written,
-      c,
+      h.consumed,
       w.appended,
       record {
-        front = (w.front.0, whole ∙ w.front.1);
-        early = λ n. absurd (n d);
-        ends = ends_as s (good_status (plain_input bytes)) ws (bytes ++ left) w.written (answer_of (plain_input bytes)) _ w.kind
-            (λ p. ends_good (plain_input bytes) ws (bytes ++ left) w.written (p ∙ sym whole) (ap (is_refused ws) same ∙ refused_mode ws bytes e));
-        to_the_end = λ _. d;
+        front = front_of_same w.written a.out _ w.front (ap (λ (x : Answer). x.out) whole);
+        early = λ some. front_of_same w.written a.out _ w.front
+            (ap (λ (x : Answer). x.out) (ap (built_answer false h.taken) e ∙ early_answer (Some m) h.taken left a h.ended h.at_end h.same some));
+        ends = ends_as s good ws (h.taken ++ left) w.written a.out _ w.kind (ends_good good a ws (h.taken ++ left) w.written st whole);
+        to_the_end = done_reads_all s good a w.written _ left w.kind st (at_end_by h.ended left a.refuses h.at_end h.early);
       },
     )
 
--- an input that is too long is refused before its end
-pub tells_refused : (ws : List Bytes) (l m before after : Option Bytes) (f k : ℕ) (s : Status) (stop : ReadStop) → is_session ws ≡ true → stop ≡ AllowancePassed → StoppedAfter l m longest_input stop
-    → Writes before after f k refusal Refused s → Tells s ws l m before after
-tells_refused ws None m before after f k s stop e p t w = tt
-tells_refused ws (Some input) None before after f k s stop e p t w = elim t.consumed [ ]
-tells_refused ws (Some input) (Some left) before after f k s stop e p t w =
-    let long : longest_input < length t.taken = t.passed.0 p in
-    let none : plain_input (t.taken ++ left) ≡ None = long_not_found t.taken left long in
-    let whole : report_of ws (t.taken ++ left) ≡ refusal = report_mode ws (t.taken ++ left) e ∙ ap answer_of none in (
-      t.taken,
-      w.written,
-      t.consumed,
-      w.appended,
-      record {
-        front = (w.front.0, whole ∙ w.front.1);
-        early = λ _. (w.front.0, long_replies ws t.taken e long ∙ w.front.1);
-        ends = ends_as s Refused ws (t.taken ++ left) w.written refusal _ w.kind (λ p. (p ∙ sym whole, refused_mode ws (t.taken ++ left) e ∙ ap is_none none));
-        to_the_end = λ d. absurd (no_other s Refused Done w.written refusal _ w.kind (λ x. cc) (λ x. cc) (λ x. cc) d);
-      },
-    )
+nothing_front : (written whole : Bytes) → IsFront written [] → IsFront written whole
+nothing_front [] whole f = (whole, refl)
+nothing_front (c ∷ cs) whole f = absurd cc
+
+-- nothing was written for want of memory or of a source
+tells_nothing : (ws : List Bytes) (l n before after : Option Bytes) (f k : ℕ) (s good : Status) → Advances l n → ((input written : Bytes) → EndsAs good ws input written) → good ≢ Done
+    → Writes before after f k [] good s → Tells s ws l n before after
+tells_nothing ws None n before after f k s good h g d w = tt
+tells_nothing ws (Some input) None before after f k s good h g d w = elim h.1 [ ]
+tells_nothing ws (Some input) (Some left) before after f k s good h g d w = (
+  h.0,
+  w.written,
+  h.1,
+  w.appended,
+  record {
+    front = nothing_front w.written _ w.front;
+    early = λ _. nothing_front w.written _ w.front;
+    ends = ends_as s good ws (h.0 ++ left) w.written [] _ w.kind (λ _. g (h.0 ++ left) w.written);
+    to_the_end = λ e. absurd (no_other s good Done w.written [] _ w.kind d (λ x. cc) (λ x. cc) e);
+  },
+)
+
+-- what is told of an answer that was written
+pub tells_answer : (ws : List Bytes) (m : Mode) (F : Type 0) (found : Result (Vec ℕ) Stop) (l n before after : Option Bytes) (f k : ℕ) (s : Status) → built_mode ws ≡ Some m → Says F (Found (Some m) l n) found
+    → Advances l n → Writes before after f k (answer_text found) (answer_status found) s → Tells s ws l n before after
+tells_answer ws m F (Ok out) l n before after f k s e h t w = tells_known ws m l n before after f k s Done (answer out.items) e h refl w
+tells_answer ws m F (Err (stop.Refused out)) l n before after f k s e h t w = tells_known ws m l n before after f k s Refused (record { out = out.items; refuses = true }) e h refl w
+tells_answer ws m F (Err stop.ReadFault) l n before after f k s e h t w = tells_nothing ws l n before after f k s ReadFault t (λ i x. tt) (λ x. cc) w
+tells_answer ws m F (Err stop.Memory) l n before after f k s e h t w = tells_nothing ws l n before after f k s Memory t (λ i x. tt) (λ x. cc) w
 
 -- ---- answers where nothing failed
 
-answer_good : (o : Option (GameModel × ℕ)) (s : Status) (refused : Bool) → s ≡ good_status o → refused ≡ is_none o → IsAnswer s refused
-answer_good None s refused e r = subst (λ x. IsAnswer x refused) (sym e) r
-answer_good (Some p) s refused e r = subst (λ x. IsAnswer x refused) (sym e) r
+is_answer : (good : Status) (a : Answer) (refused : Bool) → IsStatusOf good a → refused ≡ a.refuses → IsAnswer good refused
+is_answer Done a refused h e = e ∙ h
+is_answer Refused a refused h e = e ∙ h
+is_answer BadWords a refused h e = absurd h
+is_answer Memory a refused h e = tt
+is_answer ReadFault a refused h e = absurd h
+is_answer WriteFault a refused h e = absurd h
 
-answer_kind : (o : Option (GameModel × ℕ)) (s : Status) (refused : Bool) (written whole : Bytes) (R : Type 0) → Kind s (good_status o) written whole R → refused ≡ is_none o → ¬ R → IsAnswer s refused
-answer_kind o s refused written whole R (inl p) r n = answer_good o s refused p.0 r
-answer_kind o s refused written whole R (inr (inl p)) r n = absurd (n p.1)
-answer_kind o s refused written whole R (inr (inr p)) r n = subst (λ x. IsAnswer x refused) (sym p) tt
+kind_answer : (s good : Status) (refused : Bool) (written whole : Bytes) (R : Type 0) → Kind s good written whole R → IsAnswer good refused → ¬ R → IsAnswer s refused
+kind_answer s good refused written whole R (inl p) h n = subst (λ x. IsAnswer x refused) (sym p.0) h
+kind_answer s good refused written whole R (inr (inl p)) h n = absurd (n p.1)
+kind_answer s good refused written whole R (inr (inr p)) h n = subst (λ x. IsAnswer x refused) (sym p) tt
 
-pub answers : (ws : List Bytes) (bytes : Bytes) (l m before after : Option Bytes) (f k : ℕ) (s : Status) (R : Type 0) → Consumes l m bytes → IsAtEnd m
-    → Writes before after f k (answer_of (plain_input bytes)) (good_status (plain_input bytes)) s
-    → is_session ws ≡ true → IfSome l (λ input. ¬ R → ¬ Rose f k → IsAnswer s (is_refused ws input))
-answers ws bytes None m before after f k s R c d w e = tt
-answers ws bytes (Some input) None before after f k s R c d w e = elim c [ ]
-answers ws bytes (Some input) (Some left) before after f k s R c d w e = λ _ n.
-    answer_kind (plain_input bytes) s (is_refused ws input) w.written (answer_of (plain_input bytes)) (Rose f k) w.kind
-    (ap (is_refused ws) (c ∙ ap (λ x. bytes ++ x) d ∙ append-nil bytes) ∙ refused_mode ws bytes e) n
+answers_known : (ws : List Bytes) (m : Mode) (l n before after : Option Bytes) (f k : ℕ) (F : Type 0) (s good : Status) (a : Answer) → built_mode ws ≡ Some m → Found (Some m) l n a → IsStatusOf good a
+    → Writes before after f k a.out good s → IfSome l (λ input. ¬ F → ¬ Rose f k → IsAnswer s (is_refused ws input))
+answers_known ws m None n before after f k F s good a e h st w = tt
+answers_known ws m (Some input) None before after f k F s good a e h st w = elim h.consumed [ ]
+answers_known ws m (Some input) (Some left) before after f k F s good a e h st w = λ _ r.
+    let whole : built_answer true (h.taken ++ left) (Some m) ≡ a = whole_answer (Some m) h.taken left a h.ended h.at_end h.same h.early in
+    kind_answer s good (is_refused ws input) w.written a.out (Rose f k) w.kind
+    (is_answer good a (is_refused ws input) st (ap (is_refused ws) h.consumed ∙ ap (λ (x : Answer). x.refuses) (ap (built_answer true (h.taken ++ left)) e ∙ whole))) r
 
-pub answers_refused : (ws : List Bytes) (l m before after : Option Bytes) (f k : ℕ) (s : Status) (stop : ReadStop) (R : Type 0) → stop ≡ AllowancePassed → StoppedAfter l m longest_input stop
-    → Writes before after f k refusal Refused s → is_session ws ≡ true → IfSome l (λ input. ¬ R → ¬ Rose f k → IsAnswer s (is_refused ws input))
-answers_refused ws None m before after f k s stop R p t w e = tt
-answers_refused ws (Some input) None before after f k s stop R p t w e = elim t.consumed [ ]
-answers_refused ws (Some input) (Some left) before after f k s stop R p t w e = λ _ n.
-    answer_kind None s (is_refused ws input) w.written refusal (Rose f k) w.kind
-    (ap (is_refused ws) t.consumed ∙ refused_mode ws (t.taken ++ left) e ∙ ap is_none (long_not_found t.taken left (t.passed.0 p))) n
+answers_fault : (ws : List Bytes) (l : Option Bytes) (f k : ℕ) (F : Type 0) (s : Status) → F → IfSome l (λ input. ¬ F → ¬ Rose f k → IsAnswer s (is_refused ws input))
+answers_fault ws None f k F s h = tt
+answers_fault ws (Some input) f k F s h = λ n r. absurd (n h)
+
+answers_memory : (ws : List Bytes) (l before after : Option Bytes) (f k : ℕ) (F : Type 0) (s : Status) → Writes before after f k [] Memory s → IfSome l (λ input. ¬ F → ¬ Rose f k → IsAnswer s (is_refused ws input))
+answers_memory ws None before after f k F s w = tt
+answers_memory ws (Some input) before after f k F s w = λ n r. kind_answer s Memory (is_refused ws input) w.written [] (Rose f k) w.kind tt r
+
+pub answers : (ws : List Bytes) (m : Mode) (F : Type 0) (found : Result (Vec ℕ) Stop) (l n before after : Option Bytes) (f k : ℕ) (s : Status) → built_mode ws ≡ Some m → Says F (Found (Some m) l n) found
+    → Writes before after f k (answer_text found) (answer_status found) s → IfSome l (λ input. ¬ F → ¬ Rose f k → IsAnswer s (is_refused ws input))
+answers ws m F (Ok out) l n before after f k s e h w = answers_known ws m l n before after f k F s Done (answer out.items) e h refl w
+answers ws m F (Err (stop.Refused out)) l n before after f k s e h w = answers_known ws m l n before after f k F s Refused (record { out = out.items; refuses = true }) e h refl w
+answers ws m F (Err stop.ReadFault) l n before after f k s e h w = answers_fault ws l f k F s h
+answers ws m F (Err stop.Memory) l n before after f k s e h w = answers_memory ws l before after f k F s w
 
 -- the whole usage line was written where the status says so
-pub rejected : (ws : List Bytes) (before after : Option Bytes) (f k : ℕ) (s : Status) → is_session ws ≡ false → Writes before after f k usage_line BadWords s
-    → s ≡ BadWords → (is_session ws ≡ false) × Appends before after usage_line
+pub rejected : (ws : List Bytes) (before after : Option Bytes) (f k : ℕ) (s : Status) → built_mode ws ≡ None → Writes before after f k usage_line BadWords s
+    → s ≡ BadWords → (built_mode ws ≡ None) × Appends before after usage_line
 rejected ws before after f k s e w b = (e, by_kind w.kind)
   where
     by_kind : Kind s BadWords w.written usage_line (Rose f k) → Appends before after usage_line
@@ -183,7 +209,22 @@ rejected ws before after f k s e w b = (e, by_kind w.kind)
     by_kind (inr (inl p)) = let same : WriteFault ≡ BadWords = sym p.0 ∙ b in absurd cc
     by_kind (inr (inr p)) = let same : Memory ≡ BadWords = sym p ∙ b in absurd cc
 
--- an input that is answered as a whole has no other status
-pub not_other : (o : Option (GameModel × ℕ)) (before after : Option Bytes) (f k : ℕ) (whole : Bytes) (s t : Status) → Writes before after f k whole (good_status o) s
-    → Done ≢ t → Refused ≢ t → WriteFault ≢ t → Memory ≢ t → s ≢ t
-not_other o before after f k whole s t w a b c d = no_other s (good_status o) t w.written whole _ w.kind (good_is_not o t a b) c d
+-- an answer that was written ends as the answer does, or with a fault of the sink
+pub read_fault_cause : (F : Type 0) (P : Answer → Type 0) (found : Result (Vec ℕ) Stop) (before after : Option Bytes) (f k : ℕ) (s : Status) → Says F P found
+    → Writes before after f k (answer_text found) (answer_status found) s → s ≡ ReadFault → F
+read_fault_cause F P (Ok out) before after f k s h w e = absurd (no_other s Done ReadFault w.written _ _ w.kind (λ x. cc) (λ x. cc) (λ x. cc) e)
+read_fault_cause F P (Err (stop.Refused out)) before after f k s h w e = absurd (no_other s Refused ReadFault w.written _ _ w.kind (λ x. cc) (λ x. cc) (λ x. cc) e)
+read_fault_cause F P (Err stop.ReadFault) before after f k s h w e = h
+read_fault_cause F P (Err stop.Memory) before after f k s h w e = absurd (no_other s Memory ReadFault w.written _ _ w.kind (λ x. cc) (λ x. cc) (λ x. cc) e)
+
+pub write_fault_cause : (found : Result (Vec ℕ) Stop) (before after : Option Bytes) (f k : ℕ) (s : Status) → Writes before after f k (answer_text found) (answer_status found) s → s ≡ WriteFault → Rose f k
+write_fault_cause (Ok out) before after f k s w = fault_cause s Done w.written _ _ w.kind (λ x. cc)
+write_fault_cause (Err (stop.Refused out)) before after f k s w = fault_cause s Refused w.written _ _ w.kind (λ x. cc)
+write_fault_cause (Err stop.ReadFault) before after f k s w = fault_cause s ReadFault w.written _ _ w.kind (λ x. cc)
+write_fault_cause (Err stop.Memory) before after f k s w = fault_cause s Memory w.written _ _ w.kind (λ x. cc)
+
+pub not_bad_words : (found : Result (Vec ℕ) Stop) (before after : Option Bytes) (f k : ℕ) (s : Status) → Writes before after f k (answer_text found) (answer_status found) s → s ≢ BadWords
+not_bad_words (Ok out) before after f k s w = no_other s Done BadWords w.written _ _ w.kind (λ x. cc) (λ x. cc) (λ x. cc)
+not_bad_words (Err (stop.Refused out)) before after f k s w = no_other s Refused BadWords w.written _ _ w.kind (λ x. cc) (λ x. cc) (λ x. cc)
+not_bad_words (Err stop.ReadFault) before after f k s w = no_other s ReadFault BadWords w.written _ _ w.kind (λ x. cc) (λ x. cc) (λ x. cc)
+not_bad_words (Err stop.Memory) before after f k s w = no_other s Memory BadWords w.written _ _ w.kind (λ x. cc) (λ x. cc) (λ x. cc)

@@ -1,7 +1,9 @@
-pub mod FollowedText
+pub mod Asked
+pub mod CutLines
+pub mod GameParts
+pub mod ModeNames
 pub mod OneStep
-pub mod OneWorld
-pub mod PlainInputs
 pub mod Runs
 pub mod Statuses
+pub mod Stops
 pub mod Writes

@@ -3,13 +3,10 @@ use Rattle.std.specs.Prelude.{◌≡◌, ◌≢◌, List, [], ◌++◌, Bool, tr
 use Rattle.std.specs.declared.option.Option.{Option}
 use Rattle.std.specs.Io.KnownBytes.{Appends}
 use Rattle.lab_defs_text.specs.Words.{Bytes}
+use Rattle.lab_defs_report.specs.Laws.{IsFront}
 use Rattle.lab_defs_report.specs.Reports.{report_of, replies_of, is_refused}
 use Rattle.lab_cli.specs.declared.status.Status.{Status}
 use Rattle.lab_cli.specs.declared.status.Status.TheVariants.{Done, BadWords, Refused, Memory, WriteFault}
-
--- the first bytes begin the others
-abbrev pub IsFront : Bytes → Bytes → Type 0
-IsFront front whole = (rest : Bytes) × (whole ≡ front ++ rest)
 
 -- where a run is done, or refused, what was written is the whole report, without a refusal or with one
 abbrev pub EndsAs : Status → List Bytes → Bytes → Bytes → Type 0
@@ -39,11 +36,6 @@ IsAnswer Done refused = refused ≡ false
 IsAnswer Refused refused = refused ≡ true
 IsAnswer Memory refused = ⊤
 IsAnswer _ refused = ⊥
-
--- the status of an input that was answered as a whole
-abbrev pub good_status : {A : Type 0} → Option A → Status
-good_status None = Refused
-good_status (Some p) = Done
 
 -- the answers to words that are no mode
 abbrev pub IsRejection : Status → Type 0

@@ -1,12 +1,19 @@
 //! The modes and commands of the program.
 #![tactic(auto)]
 
+mod commands;
 mod expectation;
-mod lines;
+mod game_part;
+mod mode;
+mod pieces;
 mod plain;
+mod print;
 mod program;
-mod replies;
+mod refusals;
+mod session;
 mod status;
+mod stop;
+mod text_faults;
 
 pub use program::run;
 pub use status::Status;

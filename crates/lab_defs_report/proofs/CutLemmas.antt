@@ -24,12 +24,12 @@ continued_some (l ∷ []) (y ∷ ys) h = λ e. cc
 continued_some (l ∷ m ∷ ms) ys h = λ e. cc
 
 -- the first piece of several stays
-cons_continued : (l : Bytes) (ms ys : List Bytes) → ms ≢ [] → continued (l ∷ ms) ys ≡ l ∷ continued ms ys
+pub cons_continued : (l : Bytes) (ms ys : List Bytes) → ms ≢ [] → continued (l ∷ ms) ys ≡ l ∷ continued ms ys
 cons_continued l [] ys h = absurd (h refl)
 cons_continued l (m ∷ ms) ys h = refl
 
 -- an empty piece goes on as what follows it
-none_continued : (ys : List Bytes) → ys ≢ [] → continued ([] ∷ []) ys ≡ ys
+pub none_continued : (ys : List Bytes) → ys ≢ [] → continued ([] ∷ []) ys ≡ ys
 none_continued [] h = absurd (h refl)
 none_continued (y ∷ ys) h = refl
 

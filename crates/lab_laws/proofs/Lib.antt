@@ -7,3 +7,8 @@ pub mod SessionJudging
 pub mod SessionSteps
 pub mod SessionMending
 pub mod SessionCertificates
+pub mod SizeMass
+pub mod SizeRanges
+pub mod SizeLimits
+pub mod ReplyValues
+pub mod RulePaths

@@ -11,6 +11,14 @@ const PENNIES_2: &str =
 const PENNIES_3: &str =
     "fosg 1\ngrid 3\nhorizon 1\nmemory acts\ntoken -\nworld toss\none s1 s2\ntwo s1 s2\nrow s1 s1\nto 1 win - - -\nrow s1 s2\nto 1 lose - - -\nrow s2 s1\nto 1 lose - - -\nrow s2 s2\nto 1 win - - -\nend win 1\nend lose -1\nroot toss\ndone\n";
 
+// The second row before the first.
+const PENNIES_2_EXCHANGED: &str =
+    "fosg 1\ngrid 2\nhorizon 1\nmemory acts\ntoken -\nworld toss\none s1 s2\ntwo s1 s2\nrow s1 s2\nto 1 lose - - -\nrow s1 s1\nto 1 win - - -\nrow s2 s1\nto 1 lose - - -\nrow s2 s2\nto 1 win - - -\nend win 1\nend lose -1\nroot toss\ndone\n";
+
+// Without the rows of line 11.
+const PENNIES_2_SHORT: &str =
+    "fosg 1\ngrid 2\nhorizon 1\nmemory acts\ntoken -\nworld toss\none s1 s2\ntwo s1 s2\nrow s1 s1\nto 1 win - - -\nrow s2 s1\nto 1 lose - - -\nrow s2 s2\nto 1 win - - -\nend win 1\nend lose -1\nroot toss\ndone\n";
+
 // Three actions against two, ends on both sides of the world, two tokens.
 const THREE_BY_TWO: &str =
     "fosg 1\ngrid 5\nhorizon 1\nmemory seen\ntoken -\ntoken t.1\nend a -3\nworld w\none l m r\ntwo x y\nrow l x\nto 1 a - t.1 -\nrow l y\nto 1 b - - -\nrow m x\nto 1 b t.1 t.1 t.1\nrow m y\nto 1 c - - -\nrow r x\nto 1 a - - -\nrow r y\nto 1 b - - -\nend b 1048576\nend c -1048576\nroot w\ndone\n";
@@ -57,6 +65,13 @@ fn session(
     }
 }
 
+fn print(game: &'static str, output: &'static str, status: Status) -> Case {
+    Case {
+        words: "print",
+        ..session(game, "", output, status)
+    }
+}
+
 fn calls(alloc: Global, call: Option<u64>) -> Result<Vec<u64>, Fail> {
     let mut calls = Vec::new(alloc);
     if let Some(call) = call {
@@ -83,9 +98,44 @@ fn outcome(alloc: Global, case: &Case) -> Result<(Status, bool), Fail> {
     Ok((status, sink.bytes() == case.output.as_bytes()))
 }
 
+// The status of `print` for matching pennies with one line changed, and whether it wrote what is wanted.
+fn changed(alloc: Global, number: usize, line: &str, output: &str) -> Result<(Status, bool), Fail> {
+    let mut text = String::new(alloc);
+    for (at, kept) in PENNIES_2.lines().enumerate() {
+        text.push_str(if at + 1 == number { line } else { kept })?;
+        text.push('\n')?;
+    }
+    let mut source = MemSource::new(text.into_bytes(), Vec::new(alloc));
+    let mut sink = MemSink::new(alloc, 4096, Vec::new(alloc))?;
+    let words = words(alloc, "print")?;
+    let status = run(alloc, words.as_slice(), &mut source, &mut sink);
+    Ok((status, sink.bytes() == output.as_bytes()))
+}
+
+#[test]
+fn refuses_changed_lines(rt: HostRuntime) -> Result<(), Fail> {
+    let cases = [
+        (2, "grid 02", "refused 2 BadNumber 2\n"),
+        (2, "grid +2", "refused 2 BadNumber 2\n"),
+        (2, "grid  2", "refused 2 BadSpace 2\n"),
+        (2, "grid 4097", "refused 2 OutOfRange 2\n"),
+        (10, "to 1 won - - -", "refused 10 UnknownName 3\n"),
+        (11, "row s1 s1", "refused 11 ExtraRow\n"),
+        (12, "done", "refused 12 BadWord 1\n"),
+        (18, "end win -1", "refused 18 Twice 2\n"),
+        (19, "root win", "refused 19 NoRoot\n"),
+    ];
+    for (number, case) in cases.iter().enumerate() {
+        let (line, text, output) = *case;
+        let (status, same) = changed(rt.alloc(), line, text, output)?;
+        assert!(rt; same, "output of case {number}");
+        assert_eq!(rt; status, Status::Refused, "status of case {number}");
+    }
+    Ok(())
+}
+
 #[test]
 fn answers_refusals_and_faults(rt: HostRuntime) -> Result<(), Fail> {
-    let not_built = "refused 0 NotBuilt\n";
     let answered = session(
         PENNIES_3,
         "expect uniform\nexpect uniform\n",
@@ -93,9 +143,39 @@ fn answers_refusals_and_faults(rt: HostRuntime) -> Result<(), Fail> {
         Status::Done,
     );
     let cases = [
+        print(PENNIES_2, PENNIES_2, Status::Done),
+        print(PENNIES_2_EXCHANGED, PENNIES_2, Status::Done),
+        print(
+            PENNIES_2_SHORT,
+            "refused 6 MissingRow s1 s2\n",
+            Status::Refused,
+        ),
+        Case {
+            commands: "x\n",
+            ..print(PENNIES_2, "refused 21 ExtraLine\n", Status::Refused)
+        },
+        Case {
+            commands: "x",
+            ..print(
+                PENNIES_2_SHORT,
+                "refused 6 MissingRow s1 s2\n",
+                Status::Refused,
+            )
+        },
+        print(
+            PENNIES_2.trim_end(),
+            "refused 20 NoNewline\n",
+            Status::Refused,
+        ),
         session(PENNIES_2, "expect uniform\n", "expect 0/1\n", Status::Done),
         session(PENNIES_3, "expect uniform\n", "expect 1/9\n", Status::Done),
         session(PENNIES_2, "", "", Status::Done),
+        session(
+            PENNIES_2_EXCHANGED,
+            "expect uniform\nexpect uniform\n",
+            "expect 0/1\nexpect 0/1\n",
+            Status::Done,
+        ),
         session(
             THREE_BY_TWO,
             "expect uniform\nexpect uniform\n",
@@ -108,12 +188,43 @@ fn answers_refusals_and_faults(rt: HostRuntime) -> Result<(), Fail> {
             "expect -11/7\n",
             Status::Done,
         ),
-        session("", "", not_built, Status::Refused),
-        session(FORK, "", not_built, Status::Refused),
-        session(PENNIES_2, "bound 1\n", not_built, Status::Refused),
-        session(PENNIES_2, "expect uniform", not_built, Status::Refused),
-        session(PENNIES_2, "expect  uniform\n", not_built, Status::Refused),
-        session("", PENNIES_2.trim_end(), not_built, Status::Refused),
+        session("", "", "refused 1 CutShort\n", Status::Refused),
+        session(
+            "fosg 1\ngrid 2\nhorizon 1\nmemory acts\ntoken -\n",
+            "",
+            "refused 6 CutShort\n",
+            Status::Refused,
+        ),
+        session(
+            FORK,
+            "expect uniform\n",
+            "refused 36 NotBuilt\n",
+            Status::Refused,
+        ),
+        session(
+            PENNIES_2,
+            "bound 1\n",
+            "refused 21 NotBuilt\n",
+            Status::Refused,
+        ),
+        session(
+            PENNIES_2,
+            "expect uniform\nexpect uniform",
+            "expect 0/1\nrefused 22 NoNewline\n",
+            Status::Refused,
+        ),
+        session(
+            PENNIES_2,
+            "expect uniform\nexpect  uniform\nexpect uniform\n",
+            "expect 0/1\nrefused 22 BadSpace 2\n",
+            Status::Refused,
+        ),
+        session(
+            "",
+            PENNIES_2.trim_end(),
+            "refused 20 NoNewline\n",
+            Status::Refused,
+        ),
         Case {
             failing_read: Some(0),
             status: Status::ReadFault,
@@ -126,12 +237,6 @@ fn answers_refusals_and_faults(rt: HostRuntime) -> Result<(), Fail> {
         },
         Case {
             failing_write: Some(0),
-            status: Status::WriteFault,
-            ..answered
-        },
-        Case {
-            failing_write: Some(1),
-            output: "expect 1/9\n",
             status: Status::WriteFault,
             ..answered
         },

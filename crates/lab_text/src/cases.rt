@@ -32,13 +32,22 @@ fn refuses_texts(rt: HostRuntime) -> Result<(), Fail> {
         ("fosg\n", TextFault::BadWord { line: 1, place: 2 }),
         ("fosg 1 1\n", TextFault::BadWord { line: 1, place: 3 }),
         ("grid 2\n", TextFault::BadWord { line: 1, place: 1 }),
-        ("fosg 1\ngrid 02\n", lex(2, LexFault::BadNumber { place: 2 })),
-        ("fosg 1\ngrid 4097\n", lex(2, LexFault::OutOfRange { place: 2 })),
+        (
+            "fosg 1\ngrid 02\n",
+            lex(2, LexFault::BadNumber { place: 2 }),
+        ),
+        (
+            "fosg 1\ngrid 4097\n",
+            lex(2, LexFault::OutOfRange { place: 2 }),
+        ),
     ];
     for (text, want) in cases {
         let bytes = text.as_bytes();
         assert!(rt; bytes.len() < 1 << 32);
-        assert!(rt; read_game(rt.alloc(), bytes).err() == Some(want), "at {text}");
+        assert!(rt;
+            read_game(rt.alloc(), bytes).err() == Some(want),
+            "at {text}"
+        );
     }
     Ok(())
 }
@@ -93,7 +102,10 @@ fn refuses_games(rt: HostRuntime) -> Result<(), Fail> {
         let text = format!(in rt.alloc(); "{HEAD}{rest}")?;
         let bytes = text.as_bytes();
         assert!(rt; bytes.len() < 1 << 32);
-        assert!(rt; read_game(rt.alloc(), bytes).err() == Some(want), "at {rest}");
+        assert!(rt;
+            read_game(rt.alloc(), bytes).err() == Some(want),
+            "at {rest}"
+        );
     }
     Ok(())
 }

@@ -31,7 +31,7 @@ pub fn reduced(num: i128, den: u128) -> Fraction
 }
 
 // Euclid's.
-fn greatest_common_divisor(a: u128, b: u128) -> u128
+pub(crate) fn greatest_common_divisor(a: u128, b: u128) -> u128
     ensures { result ≡ gcd a b }
 {
     let mut x = a;

@@ -1,0 +1,6 @@
+pub mod ActionNameLemmas
+pub mod EachLemmas
+pub mod OrderLemmas
+pub mod PartLemmas
+pub mod PlaceLemmas
+pub mod RowLemmas

@@ -1,5 +1,5 @@
 -- The parts of a game as the definitions have them, and the faults of parts.
-use Rattle.std.specs.Prelude.{ℕ, List, [], ◌∷◌, map, string_bytes, Option, Some, None}
+use Rattle.std.specs.Prelude.{List, [], ◌∷◌, map, string_bytes, Option, Some, None}
 use Rattle.lab_defs_text.specs.Words.{Bytes}
 use Rattle.lab_defs_text.specs.Drafts as draft
 use Rattle.lab_defs_text.specs.Faults as fault

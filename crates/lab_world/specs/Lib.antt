@@ -2,3 +2,4 @@ pub mod Models
 pub mod Wholes
 pub mod Games
 pub mod Drafts
+pub mod Stages

@@ -7,7 +7,12 @@ ghost use Rattle.lab_world.specs.Drafts.{draft_of, assemble_fault};
 ghost use Rattle.lab_world.specs.Games.{game_model};
 
 use super::game::Game;
+use super::numbered::{NumberedPlaces, numbered_places};
 use super::parts::{AssembleFault, Parts};
+use super::place::WorldId;
+use super::rooted::rooted_places;
+use super::stages::RootedPlaces;
+use lab_seq::Seq;
 use std::alloc::Global;
 
 impl Game {
@@ -17,6 +22,34 @@ impl Game {
         requires fit { parts_ok (draft_of parts) ≡ true }
         ensures { Agrees game_model assemble_fault result (assembled (draft_of parts)) }
     {
-        Err(AssembleFault::Memory)
+        let Parts {
+            grid,
+            horizon,
+            recall,
+            tokens,
+            names,
+            places,
+            root,
+            root_line,
+        } = parts;
+        let RootedPlaces { places, root } = rooted_places(
+            alloc,
+            &names,
+            &tokens,
+            places.into_vec(),
+            root_line,
+            root.as_str(),
+        )?;
+        let NumberedPlaces { actions, places } = numbered_places(alloc, places)?;
+        Ok(Game {
+            grid,
+            horizon,
+            recall,
+            tokens,
+            names,
+            actions,
+            places: Seq::from_vec(places),
+            root: WorldId(root),
+        })
     }
 }

@@ -3,8 +3,14 @@
 
 mod assemble;
 mod game;
+mod known;
+mod numbered;
+mod ordered;
 mod parts;
 mod place;
+mod placed;
+mod rooted;
+mod stages;
 
 pub use game::Game;
 pub use parts::{AssembleFault, PartOutcome, PartPlace, PartRow, Parts};

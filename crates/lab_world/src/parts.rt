@@ -1,7 +1,11 @@
 //! The parts of a game by names, as a text lists them, with the lines where they stand.
+ghost use Rattle.std.specs.Prelude.{◌≡◌};
+ghost use Rattle.lab_world.specs.declared.parts.AssembleFault.TheVariants.{Memory};
+
 use super::place::Recall;
-use lab_lex::NameTable;
+use lab_lex::{NameTable, NoMemory};
 use lab_seq::Seq;
+use std::alloc::{AllocError, AllocFailed};
 
 /// An outcome by names, with its line.
 #[derive(Drop)]
@@ -66,4 +70,28 @@ pub enum AssembleFault {
     NoRoot { line: u32 },
     /// No memory was left.
     Memory,
+}
+
+impl From<NoMemory> for AssembleFault {
+    ghost from_gives = { λ _ e. e ≡ Memory };
+
+    fn from(_fault: NoMemory) -> AssembleFault {
+        AssembleFault::Memory
+    }
+}
+
+impl From<AllocError> for AssembleFault {
+    ghost from_gives = { λ _ e. e ≡ Memory };
+
+    fn from(_fault: AllocError) -> AssembleFault {
+        AssembleFault::Memory
+    }
+}
+
+impl<T: Drop> From<AllocFailed<T>> for AssembleFault {
+    ghost from_gives = { λ _ e. e ≡ Memory };
+
+    fn from(_fault: AllocFailed<T>) -> AssembleFault {
+        AssembleFault::Memory
+    }
 }

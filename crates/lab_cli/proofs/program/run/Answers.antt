@@ -1,39 +1,28 @@
-use Rattle.std.proofs.Common.{sym, subst, map, string_bytes}
-use Rattle.std.specs.Io.KnownBytes.{Consumes}
-use Rattle.lab_defs_report.specs.Sketch.{plain_input}
-use Rattle.lab_cli.specs.declared.status.Status.TheVariants.{BadWords, ReadFault, WriteFault}
-use Rattle.lab_cli.proofs.RunLemmas.{tells_rejected, tells_answered, tells_refused, rejected, answers, answers_refused, not_other, fault_cause, good_is_not}
-use Rattle.lab_cli.proofs.program.run.Given as given
+use Rattle.std.proofs.Common.{Some, sym, map, string_bytes}
+use Rattle.lab_io.specs.Causes.{Rose}
+use Rattle.lab_cli.specs.ModeNames.{mode_model}
+use Rattle.lab_cli.specs.Stops.{Found}
+use Rattle.lab_cli.proofs.RunLemmas.{tells_rejected, tells_answer, answers, rejected, read_fault_cause, write_fault_cause, not_bad_words}
 use Rattle.lab_cli.proofs.program.run.Goals as goal
 
-pub returns-then-not-is_session-clause-told : goal.returns-then-not-is_session-clause-told
-returns-then-not-is_session-clause-told g c = tells_rejected _ (g.S.Source.left c.args.source.now) _ _ _ _ _ (sym c.if-not-is_session.ensures) c.write_last.ensures
+pub returns-in-Some-clause-told : goal.returns-in-Some-clause-told
+returns-in-Some-clause-told g c =
+    tells_answer (map string_bytes c.args.words.now) (mode_model c.in-Some.mode) (Rose (g.S.Source.faults c.args.source.now) (g.S.Source.faults c.answer.new.source)) c.answer.result _ _ _ _ _ _ _ (sym c.in-Some.ensures) c.answer.ensures.says c.answer.ensures.advances c.write_answer.ensures
 
-pub returns-then-not-is_session-clause-bad_words : goal.returns-then-not-is_session-clause-bad_words
-returns-then-not-is_session-clause-bad_words g c = rejected (map string_bytes c.args.words.now) _ _ _ _ _ (sym c.if-not-is_session.ensures) c.write_last.ensures
+pub returns-in-Some-clause-read_fault : goal.returns-in-Some-clause-read_fault
+returns-in-Some-clause-read_fault g c = read_fault_cause _ (Found (Some (mode_model c.in-Some.mode)) (g.S.Source.left c.args.source.now) (g.S.Source.left c.answer.new.source)) c.answer.result _ _ _ _ _ c.answer.ensures.says c.write_answer.ensures
 
--- the bytes that were read, as a slice
-taken : (g : given.Over) (c : goal.After-drop-input g) → Consumes (g.S.Source.left c.args.source.now) (g.S.Source.left c.read_input.new.source) c.as_slice.result.now
-taken g c = subst (Consumes (g.S.Source.left c.args.source.now) (g.S.Source.left c.read_input.new.source)) (sym c.as_slice.ensures.value) c.in-Ok.ensures.bytes
+pub returns-in-Some-clause-write_fault : goal.returns-in-Some-clause-write_fault
+returns-in-Some-clause-write_fault g c = write_fault_cause c.answer.result _ _ _ _ _ c.write_answer.ensures
 
-pub returns-in-Ok-clause-told : goal.returns-in-Ok-clause-told
-returns-in-Ok-clause-told g c = tells_answered _ c.as_slice.result.now _ _ _ _ _ _ _ (sym c.if-not-is_session.ensures) (taken g c) c.in-Ok.ensures.end c.answer.ensures
+pub returns-in-Some-clause-answer : goal.returns-in-Some-clause-answer
+returns-in-Some-clause-answer g c = λ _. answers (map string_bytes c.args.words.now) (mode_model c.in-Some.mode) _ c.answer.result _ _ _ _ _ _ _ (sym c.in-Some.ensures) c.answer.ensures.says c.write_answer.ensures
 
-pub returns-in-Ok-clause-read_fault : goal.returns-in-Ok-clause-read_fault
-returns-in-Ok-clause-read_fault g c = λ e. absurd (not_other (plain_input c.as_slice.result.now) _ _ _ _ _ _ ReadFault c.answer.ensures (λ x. cc) (λ x. cc) (λ x. cc) (λ x. cc) e)
+pub returns-in-Some-clause-bad_words : goal.returns-in-Some-clause-bad_words
+returns-in-Some-clause-bad_words g c = λ e. absurd (not_bad_words c.answer.result _ _ _ _ _ c.write_answer.ensures e)
 
-pub returns-in-Ok-clause-write_fault : goal.returns-in-Ok-clause-write_fault
-returns-in-Ok-clause-write_fault g c = fault_cause _ _ _ _ _ c.answer.ensures.kind (good_is_not (plain_input c.as_slice.result.now) WriteFault (λ x. cc) (λ x. cc))
+pub returns-in-None-clause-told : goal.returns-in-None-clause-told
+returns-in-None-clause-told g c = tells_rejected _ (g.S.Source.left c.args.source.now) _ _ _ _ _ (sym c.in-None.ensures) c.write_last.ensures
 
-pub returns-in-Ok-clause-answer : goal.returns-in-Ok-clause-answer
-returns-in-Ok-clause-answer g c = answers (map string_bytes c.args.words.now) c.as_slice.result.now _ _ _ _ _ _ _ _ (taken g c) c.in-Ok.ensures.end c.answer.ensures
-
-pub returns-in-Ok-clause-bad_words : goal.returns-in-Ok-clause-bad_words
-returns-in-Ok-clause-bad_words g c = λ e. absurd (not_other (plain_input c.as_slice.result.now) _ _ _ _ _ _ BadWords c.answer.ensures (λ x. cc) (λ x. cc) (λ x. cc) (λ x. cc) e)
-
-pub returns-in-Err-AllowancePassed-clause-told : goal.returns-in-Err-AllowancePassed-clause-told
-returns-in-Err-AllowancePassed-clause-told g c =
-    tells_refused _ _ _ _ _ _ _ _ _ (sym c.if-not-is_session.ensures) c.in-Err-AllowancePassed.field-0-is c.in-Err-AllowancePassed.ensures.stop c.write_last-in-Err-AllowancePassed.ensures
-
-pub returns-in-Err-AllowancePassed-clause-answer : goal.returns-in-Err-AllowancePassed-clause-answer
-returns-in-Err-AllowancePassed-clause-answer g c = answers_refused (map string_bytes c.args.words.now) _ _ _ _ _ _ _ _ _ c.in-Err-AllowancePassed.field-0-is c.in-Err-AllowancePassed.ensures.stop c.write_last-in-Err-AllowancePassed.ensures
+pub returns-in-None-clause-bad_words : goal.returns-in-None-clause-bad_words
+returns-in-None-clause-bad_words g c = rejected (map string_bytes c.args.words.now) _ _ _ _ _ (sym c.in-None.ensures) c.write_last.ensures

@@ -1,0 +1,37 @@
+//! The modes of the program, and the words that name them.
+ghost use Rattle.std.specs.Prelude.{◌≡◌, ◌∷◌, [], map, string_bytes};
+ghost use Rattle.std.specs.Option.{option_map};
+ghost use Rattle.lab_defs_report.specs.Reports.{built_mode};
+ghost use Rattle.lab_cli.specs.ModeNames.{mode_model};
+
+/// What the program does with its input.
+#[derive(Clone, Copy, Debug, PartialEq, Eq)]
+pub enum Mode {
+    /// Answers the commands behind a game.
+    Session,
+    /// Writes the canonical text of a game.
+    Print,
+}
+
+/// The mode that words name.
+pub fn mode_of(words: &[String]) -> Option<Mode>
+    ensures { option_map mode_model result ≡ built_mode (map string_bytes words.now) }
+{
+    match words {
+        [word] => mode_named(word.as_bytes()),
+        _ => None,
+    }
+}
+
+// The mode that one word names.
+fn mode_named(word: &[u8]) -> Option<Mode>
+    ensures { option_map mode_model result ≡ built_mode (word.now ∷ []) }
+{
+    if word == b"session".as_slice() {
+        return Some(Mode::Session);
+    }
+    if word == b"print".as_slice() {
+        return Some(Mode::Print);
+    }
+    None
+}

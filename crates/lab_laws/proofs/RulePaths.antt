@@ -1,0 +1,151 @@
+-- Each rule keeps the bounds: values within its limits at a node are so along the path.
+use Rattle.std.proofs.Common.{◌≡◌, ℕ, zero, suc, ◌+◌, ◌<◌, ◌≤◌, ℤ, pos, negsuc, ◌+ℤ◌, ◌-ℤ◌, ◌≤ℤ◌, List, [], ◌∷◌, Bool, true, false, eqb, ◌||◌, Option, Some, None, length, map, refl, ap, ◌∙◌, subst, arith, inl, inr, eqb-true, ltb-true}
+use Rattle.std.specs.Prelude.{nat_lt, slice_index}
+use Rattle.std.specs.List.{AllByRecursion, range_with_len, fold}
+use Rattle.std.specs.Int.{int_max}
+use Rattle.std.proofs.lemmas.Int.{ints, clamps}
+use Rattle.lab_math.specs.Sums.{total, sum_over}
+use Rattle.lab_math.proofs.BelowLemmas.{eqb_self}
+use Rattle.lab_math.proofs.Integers.{le_trans_z}
+use Rattle.lab_math.proofs.Members.{In, all_from_in, in_from_range, in_from_filter}
+use Rattle.lab_math.proofs.Elements.{all_map}
+use Rattle.lab_defs_game.specs.Forms.{Taken}
+use Rattle.lab_defs_value.specs.Rounding.{share_size}
+use Rattle.lab_defs_value.specs.Parents.{is_step, IsStepBelow}
+use Rattle.lab_defs_value.specs.Replies.{Strategy, opponent, reply_sets}
+use Rattle.lab_defs_value.specs.Bounds.{through, Holds}
+use Rattle.lab_defs_value.specs.Allowances.{Rule, cfrd, reach, margin, lies_on, parent, followers, pool, shared, allowance, Ascends}
+use Rattle.lab_defs_value.specs.Passes.{limit}
+use Rattle.lab_defs_value.specs.Laws.{Sound}
+use Rattle.lab_defs_value.proofs.Parenthood.{parents_below}
+use Rattle.lab_defs_value.proofs.Bests.{follows_after}
+use Rattle.lab_defs_value.proofs.WholePaths.{view_of}
+use Rattle.lab_defs_value.proofs.Pools.{reach_law, pool_law}
+use Rattle.lab_laws.specs.Rules.{through_along, path_actions, backed_along, IsAlong, AllowanceLaw, RuleLaw}
+
+-- ---- what the allowances keep
+
+-- a size of what is not negative
+share_is : (z : ℤ) → pos 0 ≤ℤ z → pos (share_size z) ≡ z
+share_is (pos n) h = refl
+share_is (negsuc n) h = absurd (omega (arith, ints, h))
+
+-- no allowances sum to none
+sum_none : (list : List ℕ) → sum_over (λ I. 0) list ≡ 0
+sum_none [] = refl
+sum_none (I ∷ list) = omega (arith, sum_none list)
+
+-- a rule that allows nothing
+nothing_kept : (s : Strategy) (B : ℕ → ℤ) (path : List ℕ) (J a : ℕ) → through s B J a ≤ℤ B J → (through s B J a +ℤ pos (sum_over (λ I. 0) (followers s path J a))) ≤ℤ (B J +ℤ pos 0)
+nothing_kept s B path J a le = let none = sum_none (followers s path J a) in omega (arith, ints, le, none)
+
+-- the law of allowances
+pub allowance_law : AllowanceLaw
+allowance_law cfrd s ok B high path order J a l k some = nothing_kept s B path J a (high J a l k)
+allowance_law margin s ok B high path order J a l k some = nothing_kept s B path J a (high J a l k)
+allowance_law reach s ok B high path order J a l k some =
+    let allow = allowance reach s B path in
+    let whole : sum_over allow (followers s path J a) ≡ pool s B allow J a = pool_law s ok B path order J a some in
+    let le : through s B J a ≤ℤ B J = high J a l k in
+    let size = share_is (pos (allow J) +ℤ (B J -ℤ through s B J a)) (omega (arith, ints, le)) in
+    omega (arith, ints, whole, size)
+
+-- a set that follows none has no allowance
+first_allowance : (rule : Rule) (s : Strategy) → Sound s → (B : ℕ → ℤ) (path : List ℕ) (I : ℕ) → I < length (reply_sets s) → parent s I ≡ None → allowance rule s B path I ≡ 0
+first_allowance cfrd s ok B path I l none = refl
+first_allowance margin s ok B path I l none = refl
+first_allowance reach s ok B path I l none = reach_law s ok B path I l ∙ ap (shared s B path (allowance reach s B path) I) none
+
+-- set 0 follows none
+first_alone : (s : Strategy) → Sound s → parent s 0 ≡ None
+first_alone s ok = at (parent s 0) refl (parents_below s.form (opponent s) ok 0)
+  where
+    at : (o : Option Taken) → parent s 0 ≡ o → IsStepBelow (reply_sets s) 0 o → parent s 0 ≡ None
+    at None e h = e
+    at (Some t) e h = absurd (omega (arith, h.0))
+
+-- ---- lists
+
+-- what is at most numbers in each term sums to at most their sum
+total_le_sum : (f : ℕ → ℤ) (g : ℕ → ℕ) (list : List ℕ) → ((I : ℕ) → In I list → f I ≤ℤ pos (g I)) → total f list ≤ℤ pos (sum_over g list)
+total_le_sum f g [] h = omega (arith, ints)
+total_le_sum f g (I ∷ list) h =
+    let here = h I (inl refl) in
+    let rest = total_le_sum f g list (λ K i. h K (inr i)) in
+    omega (arith, ints, here, rest)
+
+-- the greatest of numbers is at most what all are at most
+fold_le : (c a : ℤ) (numbers : List ℤ) → a ≤ℤ c → AllByRecursion (λ x. x ≤ℤ c) numbers → fold int_max a numbers ≤ℤ c
+fold_le c a [] le h = le
+fold_le c a (x ∷ numbers) le h = fold_le c (int_max a x) numbers (both a x le h.0) h.1
+  where
+    both : (a x : ℤ) → a ≤ℤ c → x ≤ℤ c → int_max a x ≤ℤ c
+    both a x p q = omega (arith, ints, clamps)
+
+-- what is in a list lies on it
+on_of_in : (list : List ℕ) (I : ℕ) → In I list → lies_on list I ≡ true
+on_of_in [] I i = absurd i
+on_of_in (J ∷ list) I (inl e) = ap (λ b. b || lies_on list I) (ap (λ k. eqb k I) e ∙ eqb_self I)
+on_of_in (J ∷ list) I (inr i) = at (eqb J I) (on_of_in list I i)
+  where
+    at : (b : Bool) → lies_on list I ≡ true → (b || lies_on list I) ≡ true
+    at true e = refl
+    at false e = e
+
+-- the sets of a list in order are below its end
+below_end : (low n I : ℕ) (list : List ℕ) → Ascends low n list → lies_on list I ≡ true → I < n
+below_end low n I [] h on = absurd (never on)
+  where
+    never : false ≡ true → ⊥
+    never e = cc
+below_end low n I (J ∷ list) h on = at (eqb J I) refl on (below_end (suc J) n I list h.2)
+  where
+    at : (b : Bool) → eqb J I ≡ b → (b || lies_on list I) ≡ true → (lies_on list I ≡ true → I < n) → I < n
+    at true e p rest = subst (λ k. k < n) (eqb-true J I e) h.1
+    at false e p rest = rest p
+
+-- ---- along the path
+
+-- where the values behind a set are within the limits, those that it backs up are within its own
+backed_within : (rule : Rule) (s : Strategy) → Sound s → (B : ℕ → ℤ) → Holds s B → (path : List ℕ) → Ascends 0 (length (reply_sets s)) path → (V : ℕ → ℤ) (J : ℕ) → J < length (reply_sets s)
+    → ((K : ℕ) → J < K → lies_on path K ≡ true → V K ≤ℤ limit B (allowance rule s B path) K) → backed_along s B path V J ≤ℤ limit B (allowance rule s B path) J
+backed_within rule s ok B high path order V J l later =
+    let allow = allowance rule s B path in
+    let actions = path_actions s path J in
+    let test = λ (a : ℕ). nat_lt 0 (length (followers s path J a)) in
+    let one : (a : ℕ) → In a actions → through_along s B path V J a ≤ℤ limit B allow J = λ a i.
+    let there = in_from_filter test (range_with_len 0 (slice_index (reply_sets s) J)) a i in
+    let range = in_from_range a 0 (slice_index (reply_sets s) J) there.0 in
+    let some : 0 < length (followers s path J a) = ltb-true 0 (length (followers s path J a)) there.1 in
+    let kept = allowance_law rule s ok B high path order J a l (omega (arith, range.1)) some in
+    let more : total (λ I. V I -ℤ B I) (followers s path J a) ≤ℤ pos (sum_over allow (followers s path J a)) =
+    total_le_sum (λ I. V I -ℤ B I) allow (followers s path J a) (λ I k. at a I (in_from_filter (λ I. is_step (parent s I) J a) path I k)) in
+    omega (arith, ints, kept, more) in
+    fold_le (limit B allow J) (B J) (map (through_along s B path V J) actions) (omega (arith, ints))
+    (all_map (λ a. through_along s B path V J a ≤ℤ limit B allow J) (λ x. x ≤ℤ limit B allow J) (through_along s B path V J) actions (λ a k. k) (all_from_in (λ a. through_along s B path V J a ≤ℤ limit B allow J) actions one))
+  where
+    at : (a I : ℕ) → In I path × (is_step (parent s I) J a ≡ true) → (V I -ℤ B I) ≤ℤ pos (allowance rule s B path I)
+    at a I h =
+        let after : J < I = follows_after (view_of s) I J a (parent s I) (parents_below s.form (opponent s) ok I) h.1 in
+        let le = later I after (on_of_in path I h.0) in
+        omega (arith, ints, le)
+
+-- so from the last set back
+within_along : (rule : Rule) (s : Strategy) → Sound s → (B : ℕ → ℤ) → Holds s B → (path node : List ℕ) → Ascends 0 (length (reply_sets s)) path → (V : ℕ → ℤ) → IsAlong rule s B path node V
+    → (d J : ℕ) → length (reply_sets s) ≤ J + d → lies_on path J ≡ true → V J ≤ℤ limit B (allowance rule s B path) J
+within_along rule s ok B high path node order V h zero J le on = absurd (omega (arith, le, below_end 0 (length (reply_sets s)) J path order on))
+within_along rule s ok B high path node order V h (suc d) J le on = at (lies_on node J) refl (λ K k p. within_along rule s ok B high path node order V h d K (omega (arith, le, k)) p)
+  where
+    at : (b : Bool) → lies_on node J ≡ b → ((K : ℕ) → J < K → lies_on path K ≡ true → V K ≤ℤ limit B (allowance rule s B path) K) → V J ≤ℤ limit B (allowance rule s B path) J
+    at true e later = h.limits J e
+    at false e later = le_trans_z _ _ _ (h.backed J on e) (backed_within rule s ok B high path order V J (below_end 0 (length (reply_sets s)) J path order on) later)
+
+-- the law of rules
+pub rule_law : RuleLaw
+rule_law rule s ok B high path node order V h I on =
+    let le = within_along rule s ok B high path node order V h (length (reply_sets s)) I (omega arith) on in
+    let there = below_end 0 (length (reply_sets s)) I path order on in
+    let alone : parent s I ≡ None → V I ≤ℤ B I = λ none.
+    let zero = first_allowance rule s ok B path I there none in
+    omega (arith, ints, le, zero) in
+    (le, alone, λ e. alone (ap (parent s) e ∙ first_alone s ok))

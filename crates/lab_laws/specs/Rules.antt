@@ -1,0 +1,90 @@
+-- Best replies that are computed from the last set back, what a rule's allowances keep, and what gadgets are worth.
+use Rattle.std.specs.Prelude.{◌≡◌, ℕ, zero, suc, ◌-◌, ◌^◌, ◌<◌, ◌≤◌, ℤ, pos, ◌*ℤ◌, ◌≤ℤ◌, ◌+ℤ◌, ◌-ℤ◌, List, [], ◌∷◌, length, map, filter, nat_lt, true, false, None, if◌then◌else◌, int_le, slice_index}
+use Rattle.std.specs.List.{range_with_len}
+use Rattle.lab_math.specs.Sums.{total, sum_over}
+use Rattle.lab_math.specs.Greatest.{greatest_of}
+use Rattle.lab_defs_value.specs.Replies.{Strategy, Reply, IsReply, reply_sets, reply_factors, earned}
+use Rattle.lab_defs_value.specs.BestValues.{IsBest, IsChoice, pure_reply, best_value}
+use Rattle.lab_defs_value.specs.Bounds.{at, through, Holds, IsBackedUp}
+use Rattle.lab_defs_value.specs.Allowances.{Rule, lies_on, parent, followers, allowance, Ascends}
+use Rattle.lab_defs_value.specs.Passes.{limit}
+use Rattle.lab_defs_value.specs.Laws.{Sound}
+
+-- the first of the numbers up to n where h is greatest
+abbrev pub first_greatest : (n : ℕ) → (h : ℕ → ℤ) → ℕ
+first_greatest zero h = 0
+first_greatest (suc n) h = let first = first_greatest n h in if int_le (h (suc n)) (h first) then first else suc n
+
+-- the first action at a set that backs up most
+abbrev pub first_action : Strategy → (ℕ → ℤ) → ℕ → ℕ
+first_action s B J = first_greatest (slice_index (reply_sets s) J - 1) (through s B J)
+
+-- the number of a set in a list that has those of the last sets
+abbrev pub at_last : Strategy → List ℤ → ℕ → ℤ
+at_last s numbers J = at numbers (J - (length (reply_sets s) - length numbers))
+
+-- the values of the last n sets, in set order: each the greatest of what its actions back up, by the values behind it
+abbrev pub last_values : Strategy → (n : ℕ) → List ℤ
+last_values s zero = []
+last_values s (suc n) =
+    let behind = last_values s n in
+    let J = length (reply_sets s) - suc n in
+    through s (at_last s behind) J (first_action s (at_last s behind) J) ∷ behind
+
+-- the values of all sets, from the last set back to the first
+abbrev pub backed_up_values : Strategy → List ℤ
+backed_up_values s = last_values s (length (reply_sets s))
+
+-- the first greatest action at each set
+abbrev pub first_actions : Strategy → List ℕ
+first_actions s = let values = backed_up_values s in map (first_action s (at values)) (range_with_len 0 (length (reply_sets s)))
+
+-- no number up to n is greater than the first greatest one, and those before it are less
+abbrev pub FirstGreatestLaw : Type 0
+FirstGreatestLaw = (n : ℕ) (h : ℕ → ℤ)
+    → (first_greatest n h ≤ n) × ((k : ℕ) → k ≤ n → h k ≤ℤ h (first_greatest n h)) × ((k : ℕ) → k < first_greatest n h → (h k +ℤ pos 1) ≤ℤ h (first_greatest n h))
+
+-- the values backed up from the last set to the first are the best values: no reply earns more, by its number to the factors, and the one pure reply by the first greatest actions earns each of them
+abbrev pub BestRepliesLaw : Type 0
+BestRepliesLaw = (s : Strategy) → Sound s →
+    let values = backed_up_values s in
+    (length values ≡ length (reply_sets s))
+    × IsBackedUp s (at values)
+    × IsChoice (reply_sets s) (first_actions s)
+    × ((I : ℕ) → I < length (reply_sets s)
+    → IsBest s I (at values I)
+    × (at values I ≡ best_value s I)
+    × ((r : Reply) → IsReply (reply_sets s) r → earned s r I ≤ℤ (pos (r.all ^ reply_factors s) *ℤ at values I))
+    × (earned s (pure_reply (first_actions s)) I ≡ at values I))
+
+-- ---- the rules
+
+-- what an action backs up where the sets on the path that follow it have values in place of their bounds
+abbrev pub through_along : (s : Strategy) (B : ℕ → ℤ) (path : List ℕ) (V : ℕ → ℤ) (J a : ℕ) → ℤ
+through_along s B path V J a = through s B J a +ℤ total (λ I. V I -ℤ B I) (followers s path J a)
+
+-- the actions of a set that some set on the path follows
+abbrev pub path_actions : (s : Strategy) (path : List ℕ) (J : ℕ) → List ℕ
+path_actions s path J = filter (λ a. nat_lt 0 (length (followers s path J a))) (range_with_len 0 (slice_index (reply_sets s) J))
+
+-- the value that is backed up along the path: the greatest of the set's bound and of what those actions back up
+abbrev pub backed_along : (s : Strategy) (B : ℕ → ℤ) (path : List ℕ) (V : ℕ → ℤ) (J : ℕ) → ℤ
+backed_along s B path V J = greatest_of (B J ∷ map (through_along s B path V J) (path_actions s path J))
+
+-- values of the sets on a path: at those of the node within the limits of a rule, at the others no more than what is backed up
+pub record IsAlong (rule : Rule) (s : Strategy) (B : ℕ → ℤ) (path node : List ℕ) (V : ℕ → ℤ) : Type 0 where
+  pub limits : (I : ℕ) → lies_on node I ≡ true → V I ≤ℤ limit B (allowance rule s B path) I
+  pub backed : (J : ℕ) → lies_on path J ≡ true → lies_on node J ≡ false → V J ≤ℤ backed_along s B path V J
+
+-- by each rule, what an action backs up and the allowances of the sets on the path that follow it are within the limit of its set
+abbrev pub AllowanceLaw : Type 0
+AllowanceLaw = (rule : Rule) (s : Strategy) → Sound s → (B : ℕ → ℤ) → Holds s B → (path : List ℕ) → Ascends 0 (length (reply_sets s)) path
+    → (J a : ℕ) → J < length (reply_sets s) → a < slice_index (reply_sets s) J → 0 < length (followers s path J a)
+    → (through s B J a +ℤ pos (sum_over (allowance rule s B path) (followers s path J a))) ≤ℤ limit B (allowance rule s B path) J
+
+-- so each rule keeps the bounds: where the values at the node are within its limits, those on the path are, and at a set that follows none, as set 0, the value is at most the bound
+abbrev pub RuleLaw : Type 0
+RuleLaw = (rule : Rule) (s : Strategy) → Sound s → (B : ℕ → ℤ) → Holds s B → (path node : List ℕ) → Ascends 0 (length (reply_sets s)) path
+    → (V : ℕ → ℤ) → IsAlong rule s B path node V
+    → (I : ℕ) → lies_on path I ≡ true
+    → (V I ≤ℤ limit B (allowance rule s B path) I) × (parent s I ≡ None → V I ≤ℤ B I) × (I ≡ 0 → V I ≤ℤ B I)

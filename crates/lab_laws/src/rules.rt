@@ -1,0 +1,17 @@
+//! What best replies earn, what each rule keeps, and what gadgets are worth.
+
+ghost use Rattle.lab_laws.specs.Rules.{FirstGreatestLaw, BestRepliesLaw, AllowanceLaw, RuleLaw};
+
+/// Best replies are found from the last set back: the values that are backed up are the best ones, and one pure
+/// reply, the first greatest action at each set, earns all of them.
+pub fn best_replies()
+    ensures first { FirstGreatestLaw }
+    ensures best { BestRepliesLaw }
+{}
+
+/// Each rule keeps the bounds: where the values at a node are within its limits, the value that is backed up along
+/// the path is at most the bound at the first set.
+pub fn rule_laws()
+    ensures allowances { AllowanceLaw }
+    ensures keeps { RuleLaw }
+{}

@@ -1,0 +1,13 @@
+//! How large the numbers of a session are.
+
+ghost use Rattle.lab_laws.specs.Sizes.{RangeLaw, LimitLaw};
+
+/// No best value against a table passes the greatest payoff in the units of the bounds.
+pub fn ranges()
+    ensures { RangeLaw }
+{}
+
+/// No limit on the way to a node passes twice that.
+pub fn limits()
+    ensures { LimitLaw }
+{}

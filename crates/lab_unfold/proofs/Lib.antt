@@ -1,0 +1,11 @@
+pub mod ChildLemmas
+pub mod WorldLemmas
+pub mod LevelLemmas
+pub mod ParentLemmas
+pub mod PayoffLemmas
+pub mod UnitLemmas
+pub mod SizeLemmas
+pub mod ChanceLemmas
+pub mod BirthLemmas
+pub mod FaultLemmas
+pub mod StepLemmas

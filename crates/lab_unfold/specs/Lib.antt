@@ -1,0 +1,7 @@
+pub mod Values
+pub mod Filled
+pub mod Children
+pub mod Levels
+pub mod Faults
+pub mod Units
+pub mod Births

@@ -1,0 +1,165 @@
+-- What parts that are in order give for the game that is made of them.
+use Rattle.std.proofs.Common.{◌≡◌, ℕ, Bool, true, false, cond, string_bytes, Option, List, [], ◌∷◌, length, map, Result, Ok, Err, refl, sym, ap, ◌∙◌, arith}
+use Rattle.std.specs.Prelude.{◌&&◌, nat_lt}
+use Rattle.std.specs.List.{list_all}
+use Rattle.std.specs.Cmp.Lexicographic.{pointwise}
+use Rattle.std.specs.Str.{bytes_eq}
+use Rattle.std.proofs.lemmas.Bool.{and_parts, and_from}
+use Rattle.std.proofs.lemmas.List.{length-map}
+use Rattle.lab_defs_text.specs.Agreement.{FaultAgrees}
+use Rattle.lab_defs_text.specs.Faults.{TextFault, no_root}
+use Rattle.lab_defs_text.specs.Steps.{◌>>=◌, each}
+use Rattle.lab_defs_text.specs.Words.{Bytes, apart_after, are_names}
+use Rattle.lab_defs_text.specs.Games as model
+use Rattle.lab_defs_text.specs.Texts.{is_within, game_ok}
+use Rattle.lab_defs_text.specs.Drafts as draft
+use Rattle.lab_defs_text.specs.Reading.{done_kind}
+use Rattle.lab_defs_text.specs.Parts.{part_ok, part_row_ok, parts_ok}
+use Rattle.lab_defs_text.specs.Assembly.{KnownPlace, known_world, known_end, known, known_row, known_place, placed, ordered, is_world_at, assembled}
+use Rattle.lab_defs_text.proofs.GameLemmas.{names_fine}
+use Rattle.lab_defs_text.proofs.StepLemmas.{bind_ok, ok_carries}
+use Rattle.lab_defs_text.proofs.SplitLemmas.{bytes_eq_refl}
+use Rattle.lab_defs_text.proofs.SoFarLemmas.{apart_names, IsDraft}
+use Rattle.lab_defs_text.proofs.WholeLemmas.{game_is}
+use Rattle.lab_world.specs.declared.parts.PartPlace.{PartPlace}
+use Rattle.lab_world.specs.declared.parts.PartPlace.TheVariants as part
+use Rattle.lab_world.specs.declared.parts.Parts.{Parts}
+use Rattle.lab_world.specs.declared.place.Place.{Place}
+use Rattle.lab_world.specs.declared.place.Recall.{Recall}
+use Rattle.lab_world.specs.declared.place.WorldId.{WorldId}
+use Rattle.lab_world.specs.Drafts.{part_place_of, part_places_of, draft_of}
+use Rattle.lab_world.specs.Models.{place_model, parts_model}
+use Rattle.lab_world.specs.Wholes.{action_names, place_fits, is_whole}
+use Rattle.lab_world.specs.Stages.{known_apart, Rooted, rooted}
+use Rattle.lab_world.proofs.EachLemmas.{fault_first}
+
+-- ---- actions apart
+
+-- a place that is known has its actions apart
+known_is_apart : (ns ts : List Bytes) (p : draft.PartPlace) (k : KnownPlace) → part_ok p ≡ true → known_place ns ts p ≡ Ok k → known_apart k ≡ true
+known_is_apart ns ts (draft.part_end n line z) k f e = ok_carries (λ (x : KnownPlace). known_apart x ≡ true) (known_end z) k e refl
+known_is_apart ns ts (draft.part_world w) k f e =
+    let h = and_parts (are_names w.one) (are_names w.two && list_all part_row_ok w.rows) f in
+    let i = and_parts (are_names w.two) (list_all part_row_ok w.rows) h.1 in
+    let a = bind_ok (each (known_row ns ts) w.rows) (λ rs. Ok (known_world w.line w.one w.two rs)) k e in
+    ok_carries (λ (x : KnownPlace). known_apart x ≡ true) (known_world w.line w.one w.two a.0) k a.2
+    (and_from (apart_after [] w.one) (apart_after [] w.two) (names_fine w.one h.0).apart (names_fine w.two i.0).apart)
+
+-- likewise all places
+pub knowns_apart : (ns ts : List Bytes) (ps : List draft.PartPlace) (ks : List KnownPlace) → list_all part_ok ps ≡ true → each (known_place ns ts) ps ≡ Ok ks → list_all known_apart ks ≡ true
+knowns_apart ns ts [] ks f e = ok_carries (λ (xs : List KnownPlace). list_all known_apart xs ≡ true) [] ks e refl
+knowns_apart ns ts (p ∷ ps) ks f e =
+    let h = and_parts (part_ok p) (list_all part_ok ps) f in
+    let a = bind_ok (known_place ns ts p) (λ y. each (known_place ns ts) ps >>= λ ys. Ok (y ∷ ys)) ks e in
+    let b = bind_ok (each (known_place ns ts) ps) (λ ys. Ok (a.0 ∷ ys)) ks a.2 in
+    ok_carries (λ (xs : List KnownPlace). list_all known_apart xs ≡ true) (a.0 ∷ b.0) ks b.2
+    (and_from (known_apart a.0) (list_all known_apart b.0) (known_is_apart ns ts p a.0 h.0 a.1) (knowns_apart ns ts ps b.0 h.1 b.1))
+
+-- ---- names of places
+
+-- places whose names do not matter
+pub record Named (ns ts names : List Bytes) (ps : List PartPlace) : Type 0 where
+  pub names_are : map draft.place_name (part_places_of names ps) ≡ names
+  pub known_same : each (known_place ns ts) (part_places_of names ps) ≡ each (known_place ns ts) (map (part_place_of []) ps)
+  pub ok_same : list_all part_ok (part_places_of names ps) ≡ list_all part_ok (map (part_place_of []) ps)
+
+-- one place more
+named_more : (ns ts : List Bytes) (n : Bytes) (p : PartPlace) (names : List Bytes) (ps : List PartPlace) → draft.place_name (part_place_of n p) ≡ n → known_place ns ts (part_place_of n p) ≡ known_place ns ts (part_place_of [] p)
+    → part_ok (part_place_of n p) ≡ part_ok (part_place_of [] p) → Named ns ts names ps → Named ns ts (n ∷ names) (p ∷ ps)
+named_more ns ts n p names ps a b c r = record {
+  names_are = rw (a, r.names_are) refl;
+  known_same = rw (b, r.known_same) refl;
+  ok_same = rw (c, r.ok_same) refl;
+}
+
+-- places with as many names
+pub named : (ns ts names : List Bytes) (ps : List PartPlace) → length names ≡ length ps → Named ns ts names ps
+named ns ts [] [] e = record { names_are = refl; known_same = refl; ok_same = refl }
+named ns ts [] (p ∷ ps) e = absurd (omega (arith, e))
+named ns ts (n ∷ names) [] e = absurd (omega (arith, e))
+named ns ts (n ∷ names) (part.World line one two rows ∷ ps) e = named_more ns ts n (part.World line one two rows) names ps refl refl refl (named ns ts names ps (omega (arith, e)))
+named ns ts (n ∷ names) (part.End line z ∷ ps) e = named_more ns ts n (part.End line z) names ps refl refl refl (named ns ts names ps (omega (arith, e)))
+
+-- ---- the game
+
+-- the last step goes through the first
+through : {A B C : Type 0} (r : Result A TextFault) (f : A → Result C TextFault) (h : A → Result B TextFault) (g : B → Result C TextFault) → ((x : A) → f x ≡ (h x >>= g)) → (r >>= f) ≡ ((r >>= h) >>= g)
+through (Ok x) f h g e = e x
+through (Err d) f h g e = refl
+
+-- likewise of a test
+through_test : {B C : Type 0} (b : Bool) (x : B) (d : TextFault) (g : B → Result C TextFault) → cond b (g x) (Err d) ≡ (cond b (Ok x) (Err d) >>= g)
+through_test true x d g = refl
+through_test false x d g = refl
+
+-- the game with these places and this root
+abbrev game_with : draft.Draft → List Bytes → Rooted → Result model.GameModel TextFault
+game_with d names x = Ok (record { grid = d.grid; horizon = d.horizon; recall = d.recall; tokens = d.tokens; names = names; places = x.places; root = x.root })
+
+-- the places and the root that known places make
+abbrev rooted_from : draft.Draft → List Bytes → Result (List KnownPlace) TextFault → Result Rooted TextFault
+rooted_from d names ks =
+    ks >>= λ k. known names d.root_line 2 d.root >>= λ r. each placed k >>= λ qs. each ordered qs >>= λ places. cond (is_world_at r places) (Ok (record { places = places; root = r })) (Err (no_root d.root_line))
+
+-- the game that known places make
+abbrev game_from : draft.Draft → List Bytes → Result (List KnownPlace) TextFault → Result model.GameModel TextFault
+game_from d names ks = rooted_from d names ks >>= game_with d names
+
+-- all steps with the last among them are the steps to the root and the last
+assembled_from : (d : draft.Draft) (names : List Bytes) (ks : Result (List KnownPlace) TextFault)
+    → (ks >>= λ k. known names d.root_line 2 d.root >>= λ r. each placed k >>= λ qs. each ordered qs >>= λ places. cond (is_world_at r places) (game_with d names (record { places = places; root = r })) (Err (no_root d.root_line))) ≡ game_from d names ks
+assembled_from d names ks =
+    through ks _ _ (game_with d names) (λ k. through (known names d.root_line 2 d.root) _ _ (game_with d names) (λ r. through (each placed k) _ _ (game_with d names) (λ qs. through (each ordered qs) _ _ (game_with d names)
+    (λ places. through_test (is_world_at r places) (record { places = places; root = r }) (no_root d.root_line) (game_with d names)))))
+
+-- parts are assembled to their places and their root, with what else they declare
+assembled_is : (p : Parts) → length p.names ≡ length p.places → assembled (draft_of p) ≡ (rooted p.names p.tokens p.root_line (string_bytes p.root) (map (part_place_of []) p.places) >>= game_with (draft_of p) p.names)
+assembled_is p e =
+    let d = draft_of p in
+    let n = named p.names p.tokens p.names p.places e in
+    let known_same = ap (λ (ns : List Bytes). each (known_place ns p.tokens) d.places) n.names_are ∙ n.known_same in
+    assembled_from d (map draft.place_name d.places) (each (known_place (map draft.place_name d.places) p.tokens) d.places)
+    ∙ ap (λ (ns : List Bytes). game_from d ns (each (known_place (map draft.place_name d.places) p.tokens) d.places)) n.names_are ∙ ap (game_from d p.names) known_same
+
+-- the places and the root of parts, by the same root and the same places
+pub rooted_same : (p : Parts) (root : Bytes) (ps : List PartPlace) → string_bytes p.root ≡ root → p.places ≡ ps
+    → rooted p.names p.tokens p.root_line (string_bytes p.root) (map (part_place_of []) p.places) ≡ rooted p.names p.tokens p.root_line root (map (part_place_of []) ps)
+rooted_same p root ps a b = ap (λ (n : Bytes). rooted p.names p.tokens p.root_line n (map (part_place_of []) p.places)) a ∙ ap (λ (xs : List PartPlace). rooted p.names p.tokens p.root_line root (map (part_place_of []) xs)) b
+
+-- the game that parts are assembled to
+pub assembled_game : (p : Parts) (r : Rooted) (actions : List Bytes) (places : List Place) → length p.names ≡ length p.places → rooted p.names p.tokens p.root_line (string_bytes p.root) (map (part_place_of []) p.places) ≡ Ok r
+    → map (place_model actions) places ≡ r.places → assembled (draft_of p) ≡ Ok (parts_model p.grid p.horizon p.recall p.tokens p.names actions places (record { 0 = r.root }))
+assembled_game p r actions places e made same =
+    assembled_is p e ∙ ap (λ q. q >>= game_with (draft_of p) p.names) made ∙ ap (λ (ms : List model.Place). game_with (draft_of p) p.names (record { places = ms; root = r.root })) (sym same)
+
+-- the fault of parts that make no game
+pub assembled_fault : (p : Parts) (o : Option TextFault) → length p.names ≡ length p.places → FaultAgrees o (rooted p.names p.tokens p.root_line (string_bytes p.root) (map (part_place_of []) p.places)) → FaultAgrees o (assembled (draft_of p))
+assembled_fault p o e h = fault_first o (rooted p.names p.tokens p.root_line (string_bytes p.root) (map (part_place_of []) p.places)) (game_with (draft_of p) p.names) (assembled (draft_of p)) h (sym (assembled_is p e))
+
+-- ---- what is made is whole
+
+-- parts in order are those of a text
+pub parts_are_draft : (d : draft.Draft) → parts_ok d ≡ true → IsDraft done_kind d
+parts_are_draft d e =
+    let names = map draft.place_name d.places in
+    let a = and_parts (is_within 1 4096 d.grid) (is_within 1 32 d.horizon && (are_names d.tokens && (are_names names && list_all part_ok d.places))) e in
+    let b = and_parts (is_within 1 32 d.horizon) (are_names d.tokens && (are_names names && list_all part_ok d.places)) a.1 in
+    let c = and_parts (are_names d.tokens) (are_names names && list_all part_ok d.places) b.1 in
+    let f = and_parts (are_names names) (list_all part_ok d.places) c.1 in
+    let n = and_parts (nat_lt 0 (length names)) (apart_names names) f.0 in
+    (record { front_fine = record { grid_fine = a.0; horizon_fine = b.0; tokens_fine = c.0 }; names = n.1; places = f.1 }, sym (ap (λ k. nat_lt 0 k) (length-map d.places draft.place_name)) ∙ n.0)
+
+-- a list of names is itself, by the test too
+names_same : (xs : List Bytes) → pointwise bytes_eq xs xs ≡ true
+names_same [] = refl
+names_same (x ∷ xs) = and_from (bytes_eq x x) (pointwise bytes_eq xs xs) (bytes_eq_refl x) (names_same xs)
+
+-- a game that parts in order are assembled to is whole
+pub whole_is : (d : draft.Draft) (grid horizon : ℕ) (recall : Recall) (tokens names actions : List Bytes) (places : List Place) (root : WorldId) → parts_ok d ≡ true
+    → assembled d ≡ Ok (parts_model grid horizon recall tokens names actions places root) → list_all (place_fits (length actions)) places ≡ true → actions ≡ action_names [] (map (place_model actions) places)
+    → is_whole grid horizon recall tokens names actions places root ≡ true
+whole_is d grid horizon recall tokens names actions places root ok made fits listed =
+    let g = parts_model grid horizon recall tokens names actions places root in
+    let same = ap (pointwise bytes_eq actions) (sym listed) ∙ names_same actions in
+    and_from (game_ok g) (list_all (place_fits (length actions)) places && pointwise bytes_eq actions (action_names [] g.places)) (game_is d g (parts_are_draft d ok) made).fine
+    (and_from (list_all (place_fits (length actions)) places) (pointwise bytes_eq actions (action_names [] g.places)) fits same)

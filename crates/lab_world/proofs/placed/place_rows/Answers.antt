@@ -1,0 +1,18 @@
+use Rattle.std.proofs.Common.{◌≡◌, [], List, ℕ, length, map, ap, sym, ◌∙◌, rules}
+use Rattle.std.specs.Vec.Iter.{into_iter_items}
+use Rattle.lab_world.specs.declared.stages.KnownRow.{KnownRow}
+use Rattle.lab_world.specs.Stages.{known_row_of, numbered_rows}
+use Rattle.lab_world.proofs.RowLemmas.{rows_on, rows_first}
+use Rattle.lab_world.proofs.placed.place_rows.Goals as goal
+
+pub loop-row-init : goal.loop-row-init
+loop-row-init c =
+    let all : into_iter_items c.into_iter-row-iterator.result ≡ c.args.rows.items = search rules in
+    let one = c.args.one.now in
+    let two = c.args.two.now in
+    let rows = into_iter_items c.into_iter-row-iterator.result in
+    record {
+      made = ap (λ (ks : List ℕ). rows_on one two (numbered_rows ks c.new-2.result.items) (map known_row_of rows)) c.new.ensures.empty
+          ∙ ap (λ (rs : List KnownRow). rows_on one two [] (map known_row_of rs)) all ∙ rows_first one two (map known_row_of c.args.rows.items);
+      even = ap length c.new.ensures.empty ∙ sym (ap length c.new-2.ensures.items);
+    }

@@ -1,0 +1,119 @@
+//! Names of actions to numbers.
+ghost use Rattle.std.specs.Prelude.{◌≡◌, ◌∷◌, ◌<◌, [], length, map, nat_lt, string_bytes, true, IfOk, OnOk};
+ghost use Rattle.std.specs.List.{list_all};
+ghost use Rattle.lab_defs_text.specs.Texts.{name_of};
+ghost use Rattle.lab_world.specs.Models.{action_list, row_model, world_model, place_model};
+ghost use Rattle.lab_world.specs.Wholes.{with_new, action_names, place_fits};
+ghost use Rattle.lab_world.specs.Stages.{ordered_place_of, total_fits, totals_fit};
+ghost use Rattle.lab_world.specs.declared.place.Place.TheVariants as place;
+
+use super::place::{ActionId, Place, Row, World};
+use super::stages::OrderedPlace;
+use lab_lex::NameTable;
+use lab_seq::Seq;
+use std::alloc::{AllocError, Global};
+
+/// Places with their actions by numbers, and the names of these.
+#[derive(Drop)]
+pub struct NumberedPlaces {
+    pub actions: NameTable,
+    pub places: Vec<Place>,
+}
+
+/// Numbers the names of actions in the order in which they first stand.
+pub fn numbered_places(
+    alloc: Global,
+    places: Vec<OrderedPlace>,
+) -> Result<NumberedPlaces, AllocError>
+    requires { list_all totals_fit places.items ≡ true }
+    ensures places { IfOk result (λ n. map (place_model n.actions) n.places.items ≡ map ordered_place_of places.items) }
+    ensures actions { IfOk result (λ n. n.actions ≡ action_names [] (map ordered_place_of places.items)) }
+    ensures fits { IfOk result (λ n. list_all (place_fits (length n.actions)) n.places.items ≡ true) }
+{
+    let Ok(mut actions) = NameTable::new(alloc) else {
+        return Err(AllocError);
+    };
+    let mut found = Vec::new(alloc);
+    for place in places {
+        found.push(numbered_place(alloc, &mut actions, place)?)?;
+    }
+    Ok(NumberedPlaces {
+        actions,
+        places: found,
+    })
+}
+
+fn numbered_place(
+    alloc: Global,
+    actions: &mut NameTable,
+    place: OrderedPlace,
+) -> Result<Place, AllocError>
+    requires { totals_fit place ≡ true }
+    ensures place { IfOk result (λ p. place_model actions.new p ≡ ordered_place_of place) }
+    ensures actions { OnOk result (actions.new ≡ action_names actions.old (ordered_place_of place ∷ [])) }
+    ensures fits { IfOk result (λ p. place_fits (length actions.new) p ≡ true) }
+{
+    match place {
+        OrderedPlace::World { one, two, rows } => {
+            let world = numbered_world(alloc, actions, one.as_slice(), two.as_slice(), rows)?;
+            Ok(Place::World(world))
+        }
+        OrderedPlace::End(payoff) => Ok(Place::End(payoff)),
+    }
+}
+
+fn numbered_world(
+    alloc: Global,
+    actions: &mut NameTable,
+    one: &[String],
+    two: &[String],
+    rows: Seq<Row>,
+) -> Result<World, AllocError>
+    requires { list_all total_fits rows ≡ true }
+    ensures world { IfOk result (λ w. world_model actions.new w ≡ record { one = map string_bytes one.now; two = map string_bytes two.now; rows = map row_model rows }) }
+    ensures actions { OnOk result (actions.new ≡ with_new (with_new actions.old (map string_bytes one.now)) (map string_bytes two.now)) }
+    ensures fits { IfOk result (λ w. place_fits (length actions.new) (place.World w) ≡ true) }
+{
+    let one = action_ids(alloc, actions, one)?;
+    let two = action_ids(alloc, actions, two)?;
+    Ok(World {
+        one: Seq::from_vec(one),
+        two: Seq::from_vec(two),
+        rows,
+    })
+}
+
+// The numbers of the names of actions, which are added to the table where they are new.
+fn action_ids(
+    alloc: Global,
+    actions: &mut NameTable,
+    names: &[String],
+) -> Result<Vec<ActionId>, AllocError>
+    ensures table { OnOk result (actions.new ≡ with_new actions.old (map string_bytes names.now)) }
+    ensures ids { IfOk result (λ ids. action_list actions.new ids.items ≡ map string_bytes names.now) }
+    ensures below { IfOk result (λ ids. list_all (λ (i : ActionId). nat_lt i.0 (length actions.new)) ids.items ≡ true) }
+{
+    let mut ids = Vec::new(alloc);
+    for name in names {
+        ids.push(action_id(actions, name.as_str())?)?;
+    }
+    Ok(ids)
+}
+
+// The number of a name, which is added where it is new.
+fn action_id(actions: &mut NameTable, name: &str) -> Result<ActionId, AllocError>
+    ensures table { OnOk result (actions.new ≡ with_new actions.old (name.now ∷ [])) }
+    ensures id { IfOk result (λ i. name_of actions.new i.0 ≡ name.now) }
+    ensures below { IfOk result (λ i. i.0 < length actions.new) }
+{
+    if let Some(number) = actions.find(name) {
+        return Ok(ActionId(number));
+    }
+    if actions.count() == u32::MAX {
+        return Err(AllocError);
+    }
+    match actions.add(name) {
+        Ok(number) => Ok(ActionId(number)),
+        Err(_) => Err(AllocError),
+    }
+}

@@ -1,0 +1,134 @@
+//! Rows to their joint actions.
+ghost use Rattle.std.specs.Prelude.{◌≡◌, ◌+◌, ◌*◌, ◌<◌, ◌^◌, [], map, length, string_bytes, true, IfOk, OnOk};
+ghost use Rattle.std.specs.List.{list_all};
+ghost use Rattle.lab_defs_text.specs.Words.{apart_after};
+ghost use Rattle.lab_defs_text.specs.Agreement.{Agrees};
+ghost use Rattle.lab_defs_text.specs.Steps.{each};
+ghost use Rattle.lab_defs_text.specs.Assembly.{action_of, place_rows as rows_placed, placed};
+ghost use Rattle.lab_world.specs.Drafts.{assemble_fault};
+ghost use Rattle.lab_world.specs.Stages.{
+  known_apart,
+  known_row_of,
+  known_place_of,
+  placed_rows_of,
+  placed_place_of,
+  with_row,
+};
+
+use super::parts::AssembleFault;
+use super::place::Outcome;
+use super::stages::{KnownPlace, KnownRow, PlacedPlace, PlacedRows};
+use indexmap::IndexSet;
+use lab_lex::{NameTable, TableFault};
+use lab_seq::Seq;
+use std::alloc::{AllocError, Global};
+
+/// The places with the rows of each by their joint actions, or the first row that is one too many.
+pub fn placed_places(
+    alloc: Global,
+    places: Vec<KnownPlace>,
+) -> Result<Vec<PlacedPlace>, AssembleFault>
+    requires { list_all known_apart (map known_place_of places.items) ≡ true }
+    ensures { Agrees (λ v. map placed_place_of v.items) assemble_fault result (each placed (map known_place_of places.items)) }
+{
+    let mut found = Vec::new(alloc);
+    for place in places {
+        found.push(placed_place(alloc, place)?)?;
+    }
+    Ok(found)
+}
+
+fn placed_place(alloc: Global, place: KnownPlace) -> Result<PlacedPlace, AssembleFault>
+    requires { known_apart (known_place_of place) ≡ true }
+    ensures { Agrees placed_place_of assemble_fault result (placed (known_place_of place)) }
+{
+    match place {
+        KnownPlace::World {
+            line,
+            one,
+            two,
+            rows,
+        } => {
+            let firsts = table_of(alloc, one.as_slice())?;
+            let seconds = table_of(alloc, two.as_slice())?;
+            let rows = place_rows(alloc, &firsts, &seconds, rows.into_vec())?;
+            Ok(PlacedPlace::World {
+                line,
+                one,
+                two,
+                rows,
+            })
+        }
+        KnownPlace::End(payoff) => Ok(PlacedPlace::End(payoff)),
+    }
+}
+
+// A table of names, none of which stands twice.
+fn table_of(alloc: Global, names: &[String]) -> Result<NameTable, AllocError>
+    requires { apart_after [] (map string_bytes names.now) ≡ true }
+    ensures { IfOk result (λ t. t ≡ map string_bytes names.now) }
+{
+    let Ok(mut table) = NameTable::new(alloc) else {
+        return Err(AllocError);
+    };
+    for name in names {
+        if table.count() == u32::MAX {
+            return Err(AllocError);
+        }
+        match table.add(name.as_str()) {
+            Ok(_) => {}
+            Err(TableFault::Twice { .. }) => unreachable!(),
+            Err(TableFault::Memory) => return Err(AllocError),
+        }
+    }
+    Ok(table)
+}
+
+fn place_rows(
+    alloc: Global,
+    one: &NameTable,
+    two: &NameTable,
+    rows: Vec<KnownRow>,
+) -> Result<PlacedRows, AssembleFault>
+    ensures { Agrees placed_rows_of assemble_fault result (rows_placed one.now two.now [] (map known_row_of rows.items)) }
+{
+    let mut found = PlacedRows {
+        numbers: IndexSet::new(alloc),
+        outcomes: Vec::new(alloc),
+    };
+    for row in rows {
+        place_row(&mut found, one, two, row)?;
+    }
+    Ok(found)
+}
+
+// Adds a row, if its joint action has none.
+fn place_row(
+    found: &mut PlacedRows,
+    one: &NameTable,
+    two: &NameTable,
+    row: KnownRow,
+) -> Result<(), AssembleFault>
+    requires even { length found.old.numbers.keys ≡ length found.old.outcomes.items }
+    ensures row { Agrees (λ _. placed_rows_of found.new) assemble_fault result (with_row one.now two.now (placed_rows_of found.old) (known_row_of row)) }
+    ensures even { OnOk result (length found.new.numbers.keys ≡ length found.new.outcomes.items) }
+{
+    let number = joint_action(one, two, &row)?;
+    if found.numbers.contains(&number) {
+        return Err(AssembleFault::ExtraRow { line: row.line });
+    }
+    found.numbers.insert(number)?;
+    found.outcomes.push(row.outcomes)?;
+    Ok(())
+}
+
+// The number of a row's joint action.
+fn joint_action(one: &NameTable, two: &NameTable, row: &KnownRow) -> Result<u64, AssembleFault>
+    ensures { Agrees (λ n. n) assemble_fault result (action_of one.now two.now (known_row_of row.now)) }
+{
+    let (Some(first), Some(second)) = (one.find(row.first.as_str()), two.find(row.second.as_str()))
+    else {
+        return Err(AssembleFault::ExtraRow { line: row.line });
+    };
+    Ok(first as u64 * two.count() as u64 + second as u64)
+}
