@@ -212,7 +212,7 @@ module _ (g : GameModel) (ok : IsAccepted g) (seat : ℕ) (is : IsSeat seat) (no
         table_holds = hold;
         in_order = subst (λ n. Ascends 0 n (path_sets g (other seat) node)) (sym (reply_count g ok seat is)) (path_law g (other seat) node);
         enclosed = ap (λ a. encloses s (path_sets g (other seat) node) (node_sets g (other seat) node) a behind_inside) first
-        ∙ ap (λ b. encloses s (path_sets g (other seat) node) (node_sets g (other seat) node) (span_from g seat node) b) last ∙ enclosed g seat is node table;
+            ∙ ap (λ b. encloses s (path_sets g (other seat) node) (node_sets g (other seat) node) (span_from g seat node) b) last ∙ enclosed g seat is node table;
         fits = subst (λ a. FitsSpan a first_inside behind_inside table weights) (sym (actions_there g seat is)) (fits g seat node table weights whole long some);
       }
 
