@@ -1,8 +1,9 @@
 -- Ranges that a test cuts out, and sets that lie on what is left.
+use Rattle.lab_defs_value.proofs.Entries.{or_true}
 use Rattle.std.proofs.Common.{◌≡◌, ℕ, zero, suc, ◌+◌, ◌-◌, ◌<◌, ◌≤◌, List, [], ◌∷◌, ◌++◌, Bool, true, false, cond, ◌&&◌, ◌||◌, eqb, length, map, filter, take, drop, refl, sym, ap, ◌∙◌, arith, inl, inr, ◌⊎◌, eqb-true}
-use Rattle.std.specs.Prelude.{◌↔◌, slice_index}
+use Rattle.std.specs.Prelude.{◌↔◌, slice_index, nat_lt, nat_le}
 use Rattle.std.specs.List.{list_all, range_with_len}
-use Rattle.std.proofs.lemmas.Bool.{or_cases, both_ways, false_from_ne_true}
+use Rattle.std.proofs.lemmas.Bool.{or_cases, both_ways, false_from_ne_true, cases_lt, lt-ltb, le-leb}
 use Rattle.std.proofs.lemmas.List.{append-nil}
 use Rattle.std.proofs.Math.Seq.{take-add, drop-cons, take-length}
 use Rattle.lab_math.specs.Sums.{sum_over}
@@ -100,3 +101,12 @@ weights_all ns = ap (sum_over weights_of) (take-length ns)
 pub map_each : {X Y : Type 0} (f h : X → Y) (xs : List X) → ((x : X) → f x ≡ h x) → map f xs ≡ map h xs
 map_each f h [] e = refl
 map_each f h (x ∷ xs) e = ap (λ y. y ∷ map f xs) (e x) ∙ ap (λ ys. h x ∷ ys) (map_each f h xs e)
+
+-- a number stands in a span, or outside it
+pub span_cases : (start end J : ℕ) → ((start ≤ J) × (J < end)) ⊎ ((nat_lt J start || nat_le end J) ≡ true)
+span_cases start end J = at (cases_lt J start) (cases_lt J end)
+  where
+    at : (J < start) ⊎ (start ≤ J) → (J < end) ⊎ (end ≤ J) → ((start ≤ J) × (J < end)) ⊎ ((nat_lt J start || nat_le end J) ≡ true)
+    at (inl l) o = inr (ap (λ b. b || nat_le end J) (lt-ltb J start l))
+    at (inr ge) (inl k) = inl (ge, k)
+    at (inr ge) (inr k) = inr (or_true (nat_lt J start) (nat_le end J) (le-leb end J k))

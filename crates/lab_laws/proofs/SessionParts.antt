@@ -34,6 +34,7 @@ use Rattle.lab_defs_value.proofs.BestLaws.{best_unique, backed_up_law}
 use Rattle.lab_defs_value.proofs.Pools.{path_law}
 use Rattle.lab_defs_value.proofs.PureReplies.{best_value_law}
 use Rattle.lab_defs_value.proofs.GameForms.{game_form_law}
+use Rattle.lab_defs_value.proofs.Entries.{or_true}
 use Rattle.lab_defs_value.proofs.Safety.{safe_law}
 use Rattle.lab_defs_report.specs.States.{tight_bounds}
 use Rattle.lab_defs_report.specs.Headline.{IsAccepted}
@@ -108,10 +109,6 @@ module _ (g : GameModel) (seat : ℕ) (is : IsSeat seat) (node : List ℕ) where
   along : (h : History) → In h (histories g) → (stays_outside (span_from g seat node) (span_to g seat node) (path_along g seat h) || runs_to path_there_to sets_there (path_along g (other seat) h)) ≡ true
   along h i = at (history_cases g h i)
     where
-      or_after : (b : Bool) → (b || true) ≡ true
-      or_after true = refl
-      or_after false = refl
-
       test : History → Bool
       test x = stays_outside (span_from g seat node) (span_to g seat node) (path_along g seat x) || runs_to path_there_to sets_there (path_along g (other seat) x)
 
@@ -121,8 +118,7 @@ module _ (g : GameModel) (seat : ℕ) (is : IsSeat seat) (node : List ℕ) where
         where
           by : (b : Bool) → begins node (public_list g r.before) ≡ b → test h ≡ true
           by true e =
-              ap (λ b. stays_outside (span_from g seat node) (span_to g seat node) (path_along g seat h) || b) (runs g (other seat) node (length h) h (omega arith) r e)
-              ∙ or_after (stays_outside (span_from g seat node) (span_to g seat node) (path_along g seat h))
+              or_true (stays_outside (span_from g seat node) (span_to g seat node) (path_along g seat h)) (runs_to path_there_to sets_there (path_along g (other seat) h)) (runs g (other seat) node (length h) h (omega arith) r e)
           by false e = ap (λ b. b || runs_to path_there_to sets_there (path_along g (other seat) h)) (stays g seat node h r e)
 
   -- so it does on each row
@@ -216,7 +212,7 @@ module _ (g : GameModel) (ok : IsAccepted g) (seat : ℕ) (is : IsSeat seat) (no
         table_holds = hold;
         in_order = subst (λ n. Ascends 0 n (path_sets g (other seat) node)) (sym (reply_count g ok seat is)) (path_law g (other seat) node);
         enclosed = ap (λ a. encloses s (path_sets g (other seat) node) (node_sets g (other seat) node) a behind_inside) first
-        ∙ ap (λ b. encloses s (path_sets g (other seat) node) (node_sets g (other seat) node) (span_from g seat node) b) last ∙ enclosed g seat is node table;
+            ∙ ap (λ b. encloses s (path_sets g (other seat) node) (node_sets g (other seat) node) (span_from g seat node) b) last ∙ enclosed g seat is node table;
         fits = subst (λ a. FitsSpan a first_inside behind_inside table weights) (sym (actions_there g seat is)) (fits g seat node table weights whole long some);
       }
 

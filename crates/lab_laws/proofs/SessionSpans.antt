@@ -1,9 +1,9 @@
 -- The sets inside a subgame are those of its span, and a table with as many weights in it fits.
-use Rattle.std.proofs.Common.{◌≡◌, ℕ, ◌+◌, ◌-◌, ◌<◌, ◌≤◌, List, [], Bool, true, false, ◌||◌, length, map, take, drop, refl, sym, ap, ◌∙◌, subst, arith, inl, inr, ◌⊎◌}
+use Rattle.std.proofs.Common.{◌≡◌, ℕ, ◌+◌, ◌-◌, ◌<◌, ◌≤◌, List, [], true, false, ◌||◌, length, map, take, drop, sym, ap, ◌∙◌, subst, arith, inl, inr, ◌⊎◌}
 use Rattle.std.specs.Prelude.{slice_range, slice_index, nat_lt, nat_le}
 use Rattle.std.specs.List.{range_with_len}
 use Rattle.std.specs.Ordering.{is_lt}
-use Rattle.std.proofs.lemmas.Bool.{cases_lt, both_ways, lt-ltb, le-leb}
+use Rattle.std.proofs.lemmas.Bool.{cases_lt, both_ways}
 use Rattle.std.proofs.lemmas.List.{length-map}
 use Rattle.std.proofs.lemmas.List.FromFn.{length-range_with_len, get_or-range_with_len}
 use Rattle.lab_math.specs.Sums.{sum_over}
@@ -19,7 +19,7 @@ use Rattle.lab_math.proofs.Members.{In, in_range}
 use Rattle.lab_defs_value.specs.Allowances.{public_of, lies_on}
 use Rattle.lab_defs_value.specs.Splices.{subgame_sets, FitsSpan}
 use Rattle.lab_defs_value.specs.Subgames.{span_at, span_actions}
-use Rattle.lab_laws.proofs.SessionLists.{range_between, lies_from_in, items_between, weights_split, weights_all}
+use Rattle.lab_laws.proofs.SessionLists.{range_between, lies_from_in, items_between, weights_split, weights_all, span_cases}
 
 module _ (g : GameModel) (seat : ℕ) (node : List ℕ) where
   -- how many sets are inside
@@ -110,22 +110,8 @@ module _ (g : GameModel) (seat : ℕ) (node : List ℕ) where
   -- what is none of the sets inside is outside their span
   pub outside_span : 0 < inside_sets → (set : ℕ) → lies_on (subgame_sets g seat node) set ≡ false
       → (nat_lt set (slice_index (subgame_sets g seat node) 0) || nat_le (slice_index (subgame_sets g seat node) 0 + length (subgame_sets g seat node)) set) ≡ true
-  outside_span some set off = at (cases_lt set first) (cases_lt set (first + length (subgame_sets g seat node)))
-    where
-      first : ℕ
-      first = slice_index (subgame_sets g seat node) 0
-
-      behind : ℕ
-      behind = first + length (subgame_sets g seat node)
-
-      or_after : (b : Bool) → (b || true) ≡ true
-      or_after true = refl
-      or_after false = refl
-
-      at : (set < first) ⊎ (first ≤ set) → (set < behind) ⊎ (behind ≤ set) → (nat_lt set first || nat_le behind set) ≡ true
-      at (inl l) o = ap (λ b. b || nat_le behind set) (lt-ltb set first l)
-      at (inr ge) (inr k) = ap (λ b. nat_lt set first || b) (le-leb behind set k) ∙ or_after (nat_lt set first)
-      at (inr ge) (inl k) =
-          let there : In set (subgame_sets g seat node) =
-          subst (λ xs. In set xs) (sym inside_are) (in_range set (span_from g seat node) inside_sets (omega (arith, inside_first some, ge)) (omega (arith, inside_first some, inside_long, k))) in
-          absurd (both_ways (lies_on (subgame_sets g seat node) set) off (lies_from_in (subgame_sets g seat node) set there))
+  outside_span some set off = elim (span_cases (slice_index (subgame_sets g seat node) 0) (slice_index (subgame_sets g seat node) 0 + length (subgame_sets g seat node)) set) [
+    | inl r ↦ absurd (both_ways (lies_on (subgame_sets g seat node) set) off (lies_from_in (subgame_sets g seat node) set (subst (λ xs. In set xs) (sym inside_are)
+        (in_range set (span_from g seat node) inside_sets (omega (arith, inside_first some, r.0)) (omega (arith, inside_first some, inside_long, r.1))))))
+    | inr o ↦ o
+  ]

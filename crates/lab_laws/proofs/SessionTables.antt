@@ -1,7 +1,8 @@
 -- Tables whose weights sum to the grid: as they are read, and with a part replaced.
+use Rattle.lab_laws.proofs.SessionLists.{span_cases}
 use Rattle.std.proofs.Common.{◌≡◌, ℕ, zero, suc, ◌+◌, ◌-◌, ◌<◌, ◌≤◌, List, [], ◌∷◌, Bool, true, false, cond, eqb, not, ◌&&◌, ◌||◌, length, take, drop, get_or, refl, sym, ap, ◌∙◌, arith, inl, inr, ◌⊎◌, Option, Some, None, Result, Ok, eqb-true, zero-add}
 use Rattle.std.specs.Prelude.{nat_le, nat_lt, slice_index, slice_range, sum}
-use Rattle.std.proofs.lemmas.Bool.{both_ways, cases_lt, lt-ltb, le-leb}
+use Rattle.std.proofs.lemmas.Bool.{both_ways, cases_lt}
 use Rattle.std.proofs.lemmas.List.{take_all, get_or_past, get_or-drop, length-take, length-drop}
 use Rattle.std.proofs.lemmas.List.Sums.{sum_by_more}
 use Rattle.lab_math.specs.Below.{sum_below}
@@ -63,7 +64,10 @@ none_wrong seat (Some set) x y e = absurd cc
 -- a splice of weights that sum to the grid into a table whose weights do is one
 pub spliced_sums : (grid : ℕ) (ns : List ℕ) (start end : ℕ) (table proposal : List ℕ) → FitsSpan ns start end table proposal → SumsTo grid ns table → SumsTo grid (slice_range ns start end) proposal
     → SumsTo grid ns (spliced ns start end table proposal)
-spliced_sums grid ns start end table proposal f whole part J l d = by (cases_lt J start) (cases_lt J end)
+spliced_sums grid ns start end table proposal f whole part J l d = elim (span_cases start end J) [
+  | inl r ↦ inside r.0 r.1
+  | inr o ↦ outside o
+]
   where
     outside : (nat_lt J start || nat_le end J) ≡ true → sum_below (slice_index ns J) (λ a. slice_index (spliced ns start end table proposal) (first_weight ns J + a)) ≡ grid
     outside out =
@@ -81,12 +85,3 @@ spliced_sums grid ns start end table proposal f whole part J l d = by (cases_lt 
         (splice_law ns start end table proposal f).2 J a ge k d la ∙ ap (λ i. slice_index proposal (i + a)) (sym place))
         ∙ ap (λ m. sum_below m (λ a. slice_index proposal (first_weight (slice_range ns start end) (J - start) + a))) (sym same)
         ∙ part (J - start) there (ap (nat_le 2) same ∙ d)
-
-    or_after : (b : Bool) → (b || true) ≡ true
-    or_after true = refl
-    or_after false = refl
-
-    by : (J < start) ⊎ (start ≤ J) → (J < end) ⊎ (end ≤ J) → sum_below (slice_index ns J) (λ a. slice_index (spliced ns start end table proposal) (first_weight ns J + a)) ≡ grid
-    by (inl k) o = outside (ap (λ b. b || nat_le end J) (lt-ltb J start k))
-    by (inr ge) (inl k) = inside ge k
-    by (inr ge) (inr k) = outside (ap (λ b. nat_lt J start || b) (le-leb end J k) ∙ or_after (nat_lt J start))

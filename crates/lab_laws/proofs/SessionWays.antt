@@ -1,8 +1,8 @@
 -- The keeper comes into a span only where the opponent comes along the path to its node.
-use Rattle.std.proofs.Common.{◌≡◌, ℕ, zero, suc, ◌+◌, ◌<◌, ◌≤◌, List, [], ◌∷◌, ◌++◌, Bool, true, false, cond, not, ◌&&◌, ◌||◌, length, map, refl, sym, ap, ◌∙◌, subst, arith, inl, inr, ◌⊎◌, length-append}
+use Rattle.std.proofs.Common.{◌≡◌, ℕ, zero, suc, ◌+◌, ◌≤◌, List, [], ◌∷◌, ◌++◌, Bool, true, false, cond, not, ◌&&◌, ◌||◌, length, map, refl, sym, ap, ◌∙◌, subst, arith, inl, inr, ◌⊎◌, length-append}
 use Rattle.std.specs.Prelude.{nat_le, nat_lt}
 use Rattle.std.specs.List.{list_all}
-use Rattle.std.proofs.lemmas.Bool.{and_parts, both_ways, false_from_ne_true, not-true, cases_lt, le-leb, lt-ltb}
+use Rattle.std.proofs.lemmas.Bool.{and_parts, both_ways, false_from_ne_true, not-true, le-leb, lt-ltb}
 use Rattle.std.proofs.lemmas.List.{append-nil, length_push}
 use Rattle.lab_math.proofs.ListTests.{all_push}
 use Rattle.lab_math.proofs.Members.{In}
@@ -22,7 +22,7 @@ use Rattle.lab_defs_value.specs.Splices.{stays_outside, leaves, runs_to}
 use Rattle.lab_defs_value.specs.Subgames.{Span, span_at, is_inside, inside}
 use Rattle.lab_defs_value.proofs.GameForms.{longer_path, shorter, taken_at}
 use Rattle.lab_defs_value.proofs.SubgameForms.{lowered, inner, inside_is, none_inside}
-use Rattle.lab_laws.proofs.SessionLists.{lies_kept, lies_dropped}
+use Rattle.lab_laws.proofs.SessionLists.{lies_kept, lies_dropped, span_cases}
 
 -- ---- one more step of a path
 
@@ -53,16 +53,10 @@ runs_on path node (u ∷ q) t e off = at (lies_on node u.set) e (λ k. runs_on p
 
 -- what is not inside is outside
 outside_from : (s : Span) (t : Taken) → is_inside s t ≡ false → (nat_lt t.set s.start || nat_le s.end t.set) ≡ true
-outside_from s t e = at (cases_lt t.set s.start) (cases_lt t.set s.end)
-  where
-    or_after : (b : Bool) → (b || true) ≡ true
-    or_after true = refl
-    or_after false = refl
-
-    at : (t.set < s.start) ⊎ (s.start ≤ t.set) → (t.set < s.end) ⊎ (s.end ≤ t.set) → (nat_lt t.set s.start || nat_le s.end t.set) ≡ true
-    at (inl l) o = ap (λ b. b || nat_le s.end t.set) (lt-ltb t.set s.start l)
-    at (inr g) (inr k) = ap (λ b. nat_lt t.set s.start || b) (le-leb s.end t.set k) ∙ or_after (nat_lt t.set s.start)
-    at (inr g) (inl k) = absurd (both_ways (is_inside s t) e (ap (λ b. b && nat_lt t.set s.end) (le-leb s.start t.set g) ∙ lt-ltb t.set s.end k))
+outside_from s t e = elim (span_cases s.start s.end t.set) [
+  | inl r ↦ absurd (both_ways (is_inside s t) e (ap (λ b. b && nat_lt t.set s.end) (le-leb s.start t.set r.0) ∙ lt-ltb t.set s.end r.1))
+  | inr o ↦ o
+]
 
 -- a path of which nothing is inside stays outside
 pub none_out : (s : Span) (path : List Taken) → inner s path ≡ [] → stays_outside s.start s.end path ≡ true
