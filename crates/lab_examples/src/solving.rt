@@ -53,6 +53,12 @@ pub fn resolved_by_reach()
         ≡ text (codes "blueprint 1/1 1/3" ∷ codes "accepted 1 0 reach 0/1 1/1" ∷ []) }
 {}
 
+/// A re-solve needs a round, too.
+pub fn no_round_behind_a_bet()
+    ensures { report_of session (kuhn (codes "2") ++ text (codes "blueprint uniform" ∷ codes "resolve 1 4 cfrd 0" ∷ []))
+        ≡ text (codes "blueprint 5/12 1/2" ∷ codes "refused 198 BadRounds" ∷ []) }
+{}
+
 /// One round behind a bet in Kuhn poker gives the even split that stands.
 pub fn resolved_behind_a_bet()
     ensures { report_of session (kuhn (codes "2") ++ text (codes "blueprint uniform" ∷ codes "resolve 1 4 cfrd 1" ∷ []))
