@@ -102,7 +102,7 @@ pub fn names_in(alloc: Global, rest: &[&[u8]]) -> Result<Vec<String>, LineFault>
     ensures names { Agrees (λ v. name_list v.items) line_fault result (names_at 2 (pieces rest.now)) }
     ensures count { IfOk result (λ v. length v.items ≡ length rest.now) }
 {
-    let mut found = Vec::new(alloc);
+    let mut found = Vec::with_capacity(alloc, rest.len())?;
     for i in 0..rest.len() {
         let name = name_in(rest[i], i as u32 + 2)?;
         found.push(String::from_str(alloc, name)?)?;

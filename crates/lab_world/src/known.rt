@@ -28,7 +28,7 @@ pub fn known_places(
 ) -> Result<Vec<KnownPlace>, AssembleFault>
     ensures { Agrees (λ v. map known_place_of v.items) assemble_fault result (each (known_place_of_parts names.now tokens.now) (map (part_place_of []) places.items)) }
 {
-    let mut found = Vec::new(alloc);
+    let mut found = Vec::with_capacity(alloc, places.len())?;
     for place in places {
         found.push(known_place(alloc, names, tokens, place)?)?;
     }
@@ -70,7 +70,7 @@ fn known_rows(
 ) -> Result<Vec<KnownRow>, AssembleFault>
     ensures { Agrees (λ v. map known_row_of v.items) assemble_fault result (each (known_row_of_parts names.now tokens.now) (map part_row_of rows.items)) }
 {
-    let mut found = Vec::new(alloc);
+    let mut found = Vec::with_capacity(alloc, rows.len())?;
     for row in rows {
         found.push(known_row(alloc, names, tokens, row)?)?;
     }
@@ -108,7 +108,7 @@ fn known_outcomes(
 ) -> Result<Vec<Outcome>, AssembleFault>
     ensures { Agrees (λ v. outcomes_model v.items) assemble_fault result (each (known_outcome_of_parts names.now tokens.now) (map part_outcome_of outcomes.now)) }
 {
-    let mut found = Vec::new(alloc);
+    let mut found = Vec::with_capacity(alloc, outcomes.len())?;
     for outcome in outcomes {
         found.push(known_outcome(names, tokens, outcome)?)?;
     }

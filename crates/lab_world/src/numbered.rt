@@ -33,7 +33,7 @@ pub fn numbered_places(
     let Ok(mut actions) = NameTable::new(alloc) else {
         return Err(AllocError);
     };
-    let mut found = Vec::new(alloc);
+    let mut found = Vec::with_capacity(alloc, places.len())?;
     for place in places {
         found.push(numbered_place(alloc, &mut actions, place)?)?;
     }
@@ -93,7 +93,7 @@ fn action_ids(
     ensures ids { IfOk result (λ ids. action_list actions.new ids.items ≡ map string_bytes names.now) }
     ensures below { IfOk result (λ ids. list_all (λ (i : ActionId). nat_lt i.0 (length actions.new)) ids.items ≡ true) }
 {
-    let mut ids = Vec::new(alloc);
+    let mut ids = Vec::with_capacity(alloc, names.len())?;
     for name in names {
         ids.push(action_id(actions, name.as_str())?)?;
     }

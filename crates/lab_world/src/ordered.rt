@@ -49,7 +49,7 @@ pub fn ordered_places(
     ensures places { Agrees (λ v. map ordered_place_of v.items) assemble_fault result (each ordered (map placed_place_of places.items)) }
     ensures totals { IfOk result (λ v. list_all totals_fit v.items ≡ true) }
 {
-    let mut found = Vec::new(alloc);
+    let mut found = Vec::with_capacity(alloc, places.len())?;
     for place in places {
         found.push(ordered_place(alloc, place)?)?;
     }
@@ -94,7 +94,7 @@ fn rows_in_order(
         return Err(AssembleFault::Memory);
     };
     let mut left = placed;
-    let mut found = Vec::new(alloc);
+    let mut found = Vec::with_capacity(alloc, left.outcomes.len())?;
     for number in 0..firsts as u64 * seconds as u64 {
         let Some(outcomes) = take_row(alloc, &mut left, number) else {
             return Err(missing_row(line, number, seconds));

@@ -32,7 +32,7 @@ pub fn placed_places(
     requires { list_all known_apart (map known_place_of places.items) ≡ true }
     ensures { Agrees (λ v. map placed_place_of v.items) assemble_fault result (each placed (map known_place_of places.items)) }
 {
-    let mut found = Vec::new(alloc);
+    let mut found = Vec::with_capacity(alloc, places.len())?;
     for place in places {
         found.push(placed_place(alloc, place)?)?;
     }
@@ -107,9 +107,10 @@ fn place_rows(
 ) -> Result<PlacedRows, AssembleFault>
     ensures { Agrees placed_rows_of assemble_fault result (rows_placed one.now two.now [] (map known_row_of rows.items)) }
 {
+    let outcomes = Vec::with_capacity(alloc, rows.len())?;
     let mut found = PlacedRows {
         numbers: NumberSet::new(alloc),
-        outcomes: Vec::new(alloc),
+        outcomes,
     };
     for row in rows {
         place_row(&mut found, one, two, row)?;

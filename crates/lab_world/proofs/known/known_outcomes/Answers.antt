@@ -8,4 +8,4 @@ use Rattle.lab_world.proofs.known.known_outcomes.Goals as goal
 pub loop-outcome-init : goal.loop-outcome-init
 loop-outcome-init c =
     let all = map part_outcome_of c.args.outcomes.now in
-    ap (λ ys. each_on (known_outcome c.args.names.now c.args.tokens.now) (outcomes_model ys) all) c.new-found.ensures.items ∙ each_first (known_outcome c.args.names.now c.args.tokens.now) all
+    ap (λ ys. each_on (known_outcome c.args.names.now c.args.tokens.now) (outcomes_model ys) all) c.in_ok-found.ensures.items ∙ each_first (known_outcome c.args.names.now c.args.tokens.now) all

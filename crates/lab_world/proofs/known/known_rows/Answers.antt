@@ -10,5 +10,5 @@ pub loop-row-init : goal.loop-row-init
 loop-row-init c =
     let all : into_iter_items c.into_iter-row-iterator.result ≡ c.args.rows.items = search rules in
     let step = known_row c.args.names.now c.args.tokens.now in
-    ap (λ ys. each_on step (map known_row_of ys) (map part_row_of (into_iter_items c.into_iter-row-iterator.result))) c.new-found.ensures.items
+    ap (λ ys. each_on step (map known_row_of ys) (map part_row_of (into_iter_items c.into_iter-row-iterator.result))) c.in_ok-found.ensures.items
     ∙ ap (λ xs. each_on step [] (map part_row_of xs)) all ∙ each_first step (map part_row_of c.args.rows.items)

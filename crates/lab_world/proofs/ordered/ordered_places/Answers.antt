@@ -11,7 +11,7 @@ pub loop-place-init : goal.loop-place-init
 loop-place-init c =
     let all : into_iter_items c.into_iter-place-iterator.result ≡ c.args.places.items = search rules in
     record {
-      made = ap (λ ys. each_on ordered (map ordered_place_of ys) (map placed_place_of (into_iter_items c.into_iter-place-iterator.result))) c.new-found.ensures.items
+      made = ap (λ ys. each_on ordered (map ordered_place_of ys) (map placed_place_of (into_iter_items c.into_iter-place-iterator.result))) c.in_ok-found.ensures.items
           ∙ ap (λ xs. each_on ordered [] (map placed_place_of xs)) all ∙ each_first ordered (map placed_place_of c.args.places.items);
-      totals = ap (λ (ys : List OrderedPlace). list_all totals_fit ys) c.new-found.ensures.items;
+      totals = ap (λ (ys : List OrderedPlace). list_all totals_fit ys) c.in_ok-found.ensures.items;
     }

@@ -22,10 +22,10 @@ loop-number-init c =
     let count = c.args.one * c.args.two in
     let all : count - 0 ≡ count = omega arith in
     record {
-      made = ap (λ (rs : List Row). each_on step (map row_model rs) (range_with_len 0 (count - 0))) c.new-found.ensures.items
+      made = ap (λ (rs : List Row). each_on step (map row_model rs) (range_with_len 0 (count - 0))) c.in_ok-found.ensures.items
           ∙ ap (λ (n : ℕ). each_on step [] (range_with_len 0 n)) all ∙ each_first step (range_with_len 0 count);
       kept = λ k le. refl;
-      totals = ap (λ (rs : List Row). list_all total_fits rs) c.new-found.ensures.items;
+      totals = ap (λ (rs : List Row). list_all total_fits rs) c.in_ok-found.ensures.items;
     }
 
 pub loop-number-preserved : goal.loop-number-preserved

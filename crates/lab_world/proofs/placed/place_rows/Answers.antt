@@ -12,7 +12,7 @@ loop-row-init c =
     let two = c.args.two.now in
     let rows = into_iter_items c.into_iter-row-iterator.result in
     record {
-      made = ap (λ (ks : List ℕ). rows_on one two (numbered_rows ks c.new-2.result.items) (map known_row_of rows)) c.new.ensures
+      made = ap (λ (ks : List ℕ). rows_on one two (numbered_rows ks c.in_ok-outcomes.outcomes.items) (map known_row_of rows)) c.new.ensures
           ∙ ap (λ (rs : List KnownRow). rows_on one two [] (map known_row_of rs)) all ∙ rows_first one two (map known_row_of c.args.rows.items);
-      even = ap length c.new.ensures ∙ sym (ap length c.new-2.ensures.items);
+      even = ap length c.new.ensures ∙ sym (ap length c.in_ok-outcomes.ensures.items);
     }

@@ -11,7 +11,7 @@ pub loop-place-init : goal.loop-place-init
 loop-place-init c =
     let all : into_iter_items c.into_iter-place-iterator.result ≡ c.args.places.items = search rules in
     record {
-      made = ap (λ ys. each_on placed (map placed_place_of ys) (map known_place_of (into_iter_items c.into_iter-place-iterator.result))) c.new-found.ensures.items
+      made = ap (λ ys. each_on placed (map placed_place_of ys) (map known_place_of (into_iter_items c.into_iter-place-iterator.result))) c.in_ok-found.ensures.items
           ∙ ap (λ xs. each_on placed [] (map known_place_of xs)) all ∙ each_first placed (map known_place_of c.args.places.items);
       apart = subst (λ (xs : List KnownPlace). list_all known_apart (map known_place_of xs) ≡ true) (sym all) c.requires;
     }
