@@ -7,3 +7,6 @@ pub mod SessionSteps
 pub mod SizeMass
 pub mod SizeRanges
 pub mod SizeLimits
+pub mod SizeChance
+pub mod SizeRows
+pub mod SizeGadgets

@@ -1,6 +1,6 @@
 //! How large the numbers of a session are.
 
-ghost use Rattle.lab_laws.specs.Sizes.{RangeLaw, LimitLaw};
+ghost use Rattle.lab_laws.specs.Sizes.{RangeLaw, LimitLaw, RowLaw};
 
 /// No best value against a table passes the greatest payoff in the units of the bounds.
 pub fn ranges()
@@ -10,4 +10,9 @@ pub fn ranges()
 /// No limit on the way to a node passes twice that.
 pub fn limits()
     ensures { LimitLaw }
+{}
+
+/// No row comes to more than 2^64, and none of a gadget to more than 2^77.
+pub fn small_rows()
+    ensures { RowLaw }
 {}
