@@ -10,3 +10,4 @@ pub mod SizeLimits
 pub mod SizeChance
 pub mod SizeRows
 pub mod SizeGadgets
+pub mod SizeCounts

@@ -62,7 +62,7 @@ deciding_entered rule front ns (t ∷ ts) =
 -- ---- numbers
 
 -- the grid is at most 2^12
-grid_most : (g : GameModel) → game_ok g ≡ true → g.grid ≤ 4096
+pub grid_most : (g : GameModel) → game_ok g ≡ true → g.grid ≤ 4096
 grid_most g ok = leb-true g.grid 4096 (and_parts (nat_le 1 g.grid) (nat_le g.grid 4096) (game_fine g ok).grid).1
 
 -- one more factor of a grid

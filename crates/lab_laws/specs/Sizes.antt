@@ -52,3 +52,17 @@ RowLaw = (g : GameModel) → IsAccepted g →
     × ((keeper : ℕ) → (keeper ≡ 1) ⊎ (keeper ≡ 2) → (node table : List ℕ) → IsTable (game_actions g keeper) (grid_of g keeper) table
     → HasRows (grid_of g 1) (grid_of g 2) (subgame_form g keeper node table) (2 ^ 64)
     × ((rule : Rule) → HasRows (grid_of g 1) (grid_of g 2) (gadget_form g rule keeper node table (tight_bounds g keeper table)) (2 ^ 77)))
+
+-- a form is small: grids from 1 up to 2^12, at most 2^17 rows, and none that comes to more than 2^77
+pub record IsSmall (grid1 grid2 : ℕ) (f : Form) : Type 0 where
+  pub grids : (1 ≤ grid1) × (grid1 ≤ 2 ^ 12) × (1 ≤ grid2) × (grid2 ≤ 2 ^ 12)
+  pub few : length f.rows ≤ 2 ^ 17
+  pub rows : HasRows grid1 grid2 f (2 ^ 77)
+
+-- in an accepted game the form of the game is small, and so is that of a subgame, and a gadget by tight bounds
+abbrev pub SmallLaw : Type 0
+SmallLaw = (g : GameModel) → IsAccepted g →
+    IsSmall (grid_of g 1) (grid_of g 2) (form_of g)
+    × ((keeper : ℕ) → (keeper ≡ 1) ⊎ (keeper ≡ 2) → (node table : List ℕ) → IsTable (game_actions g keeper) (grid_of g keeper) table
+    → IsSmall (grid_of g 1) (grid_of g 2) (subgame_form g keeper node table)
+    × ((rule : Rule) → IsSmall (grid_of g 1) (grid_of g 2) (gadget_form g rule keeper node table (tight_bounds g keeper table))))
