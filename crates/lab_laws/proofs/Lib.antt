@@ -12,3 +12,7 @@ pub mod SizeRanges
 pub mod SizeLimits
 pub mod ReplyValues
 pub mod RulePaths
+pub mod SizeChance
+pub mod SizeRows
+pub mod SizeGadgets
+pub mod SizeCounts

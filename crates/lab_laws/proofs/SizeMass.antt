@@ -82,7 +82,7 @@ twice true w = refl
 twice false w = omega (arith, ints)
 
 -- a worth is as large to either seat
-turned_size : (b : Bool) (w : ℤ) → unsigned_abs (cond b w (neg_ℤ w)) ≡ unsigned_abs w
+pub turned_size : (b : Bool) (w : ℤ) → unsigned_abs (cond b w (neg_ℤ w)) ≡ unsigned_abs w
 turned_size true w = refl
 turned_size false w = omega (arith, ints)
 

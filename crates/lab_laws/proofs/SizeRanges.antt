@@ -105,7 +105,7 @@ begins_row g ok seat h i = at (eqb seat 1)
     at false = begins_along g ok 2 h i
 
 -- the decisions and pad of a row are the most decisions
-row_factors : (g : GameModel) (seat : ℕ) → AlikeNames g seat → (h : History) → In h (terminal_histories g)
+pub row_factors : (g : GameModel) (seat : ℕ) → AlikeNames g seat → (h : History) → In h (terminal_histories g)
     → deciding (game_actions g seat) (path_along g seat h) + (most_decisions g seat - deciding (game_actions g seat) (path_along g seat h)) ≡ most_decisions g seat
 row_factors g seat alike h i = let le = deciding_most g seat alike h (in_from_filter (is_terminal g) (histories g) h i).0 in omega (arith, le)
 
@@ -173,7 +173,7 @@ some_grid g ok = let e = (game_fine g ok).grid in within 1 4096 g.grid e
     within a b n e = leb-true a n (and_parts (nat_le a n) (nat_le n b) e).0
 
 -- a power of it is not 0
-some_power : (d n : ℕ) → 1 ≤ d → 0 < d ^ n
+pub some_power : (d n : ℕ) → 1 ≤ d → 0 < d ^ n
 some_power d zero l = subst (λ x. 0 < x) (sym (pow-zero d)) (omega arith)
 some_power d (suc n) l = let r = some_power d n l in subst (λ x. 0 < x) (sym (pow-suc d n)) (mul-le-mul r l)
 

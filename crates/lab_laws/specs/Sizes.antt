@@ -1,9 +1,9 @@
 -- How large the numbers of a session are.
-use Rattle.std.specs.Prelude.{◌≡◌, ◌⊎◌, ℕ, ◌*◌, ◌^◌, ◌<◌, ◌≤◌, max, unsigned_abs, pos, neg_ℤ, ◌≤ℤ◌, List, length}
+use Rattle.std.specs.Prelude.{◌≡◌, ◌⊎◌, All, ℕ, ◌+◌, ◌*◌, ◌^◌, ◌<◌, ◌≤◌, max, unsigned_abs, pos, neg_ℤ, ◌≤ℤ◌, List, length}
 use Rattle.lab_defs_text.specs.Games.{GameModel}
 use Rattle.lab_defs_game.specs.Sets.{sets, most_decisions}
 use Rattle.lab_defs_game.specs.Chance.{scale}
-use Rattle.lab_defs_game.specs.Forms.{game_actions}
+use Rattle.lab_defs_game.specs.Forms.{Row, Form, form_of, game_actions, actions_of, path_of, pad_of, deciding}
 use Rattle.lab_defs_game.specs.Unfolding.{top_payoff}
 use Rattle.lab_defs_value.specs.Expectation.{grid_of}
 use Rattle.lab_defs_value.specs.Replies.{IsTable, strategy_of, other}
@@ -11,6 +11,8 @@ use Rattle.lab_defs_value.specs.BestValues.{best_value}
 use Rattle.lab_defs_value.specs.Bounds.{at}
 use Rattle.lab_defs_value.specs.Allowances.{Rule, allowance, path_sets}
 use Rattle.lab_defs_value.specs.Passes.{limit}
+use Rattle.lab_defs_value.specs.Subgames.{subgame_form}
+use Rattle.lab_defs_value.specs.Gadgets.{gadget_form}
 use Rattle.lab_defs_report.specs.States.{tight_bounds}
 use Rattle.lab_defs_report.specs.Headline.{IsAccepted}
 
@@ -30,3 +32,37 @@ LimitLaw = (g : GameModel) → IsAccepted g → (keeper : ℕ) → (keeper ≡ 1
     let B = at (tight_bounds g keeper table) in
     let l = limit B (allowance rule (strategy_of g keeper table) B (path_sets g (other keeper) node)) I in
     (neg_ℤ (pos (best_limit g keeper)) ≤ℤ l) × (l ≤ℤ pos (2 * best_limit g keeper))
+
+-- how many factors a seat brings to a row: its deciding sets there, and its pad
+abbrev pub factors_at : Form → ℕ → Row → ℕ
+factors_at f seat z = deciding (actions_of f seat) (path_of z seat) + pad_of z seat
+
+-- the most that a row may come to: its worth, at least 1, by the grid for each factor of either seat
+abbrev pub row_size : (grid1 grid2 : ℕ) → Form → Row → ℕ
+row_size grid1 grid2 f z = max 1 (unsigned_abs z.worth) * (grid1 ^ factors_at f 1 z * grid2 ^ factors_at f 2 z)
+
+-- no row of a form comes to more than a number
+abbrev pub HasRows : (grid1 grid2 : ℕ) → Form → ℕ → Type 0
+HasRows grid1 grid2 f most = All (λ z. row_size grid1 grid2 f z ≤ most) f.rows
+
+-- in an accepted game no row of the game or of a subgame comes to more than 2^64, and none of a gadget by tight bounds to more than 2^77
+abbrev pub RowLaw : Type 0
+RowLaw = (g : GameModel) → IsAccepted g →
+    HasRows (grid_of g 1) (grid_of g 2) (form_of g) (2 ^ 64)
+    × ((keeper : ℕ) → (keeper ≡ 1) ⊎ (keeper ≡ 2) → (node table : List ℕ) → IsTable (game_actions g keeper) (grid_of g keeper) table
+    → HasRows (grid_of g 1) (grid_of g 2) (subgame_form g keeper node table) (2 ^ 64)
+    × ((rule : Rule) → HasRows (grid_of g 1) (grid_of g 2) (gadget_form g rule keeper node table (tight_bounds g keeper table)) (2 ^ 77)))
+
+-- a form is small: grids from 1 up to 2^12, at most 2^17 rows, and none that comes to more than 2^77
+pub record IsSmall (grid1 grid2 : ℕ) (f : Form) : Type 0 where
+  pub grids : (1 ≤ grid1) × (grid1 ≤ 2 ^ 12) × (1 ≤ grid2) × (grid2 ≤ 2 ^ 12)
+  pub few : length f.rows ≤ 2 ^ 17
+  pub rows : HasRows grid1 grid2 f (2 ^ 77)
+
+-- in an accepted game the form of the game is small, and so is that of a subgame, and a gadget by tight bounds
+abbrev pub SmallLaw : Type 0
+SmallLaw = (g : GameModel) → IsAccepted g →
+    IsSmall (grid_of g 1) (grid_of g 2) (form_of g)
+    × ((keeper : ℕ) → (keeper ≡ 1) ⊎ (keeper ≡ 2) → (node table : List ℕ) → IsTable (game_actions g keeper) (grid_of g keeper) table
+    → IsSmall (grid_of g 1) (grid_of g 2) (subgame_form g keeper node table)
+    × ((rule : Rule) → IsSmall (grid_of g 1) (grid_of g 2) (gadget_form g rule keeper node table (tight_bounds g keeper table))))
