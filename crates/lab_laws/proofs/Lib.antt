@@ -6,3 +6,5 @@ pub mod SessionJudging
 pub mod SessionSteps
 pub mod ReplyValues
 pub mod RulePaths
+pub mod RuleEntries
+pub mod RuleGadgets
