@@ -8,3 +8,4 @@ pub mod ReplyValues
 pub mod RulePaths
 pub mod RuleEntries
 pub mod RuleGadgets
+pub mod RuleNodes

@@ -4,15 +4,20 @@ use Rattle.std.specs.List.{range_with_len}
 use Rattle.std.specs.Int.{int_max}
 use Rattle.lab_math.specs.Sums.{total, sum_over}
 use Rattle.lab_math.specs.Greatest.{greatest_of}
+use Rattle.lab_defs_text.specs.Games.{GameModel}
+use Rattle.lab_defs_text.specs.Texts.{game_ok}
 use Rattle.lab_defs_game.specs.Forms.{Form, path_of}
+use Rattle.lab_defs_game.specs.Recall.{recall_fault}
+use Rattle.lab_defs_value.specs.Expectation.{grid_of}
 use Rattle.lab_defs_value.specs.Parents.{parent_in, IsForm}
 use Rattle.lab_defs_value.specs.Replies.{Strategy, Reply, IsReply, other, reply_sets, reply_factors, earned}
 use Rattle.lab_defs_value.specs.BestValues.{IsBest, IsChoice, pure_reply, best_value}
 use Rattle.lab_defs_value.specs.Bounds.{at, through, Holds, IsBackedUp}
-use Rattle.lab_defs_value.specs.Allowances.{Rule, cfrd, reach, margin, lies_on, parent, followers, allowance, Ascends}
+use Rattle.lab_defs_value.specs.Allowances.{Rule, cfrd, reach, margin, lies_on, parent, followers, allowance, node_sets, Ascends}
 use Rattle.lab_defs_value.specs.Passes.{limit}
 use Rattle.lab_defs_value.specs.Laws.{Sound}
-use Rattle.lab_defs_value.specs.Gadgets.{further_sets, gadget}
+use Rattle.lab_defs_value.specs.Subgames.{subgame_form}
+use Rattle.lab_defs_value.specs.Gadgets.{further_sets, gadget, node_limit, gadget_form}
 use Rattle.lab_defs_value.specs.MatchingLaws.{BeginsBelow}
 
 -- the first of the numbers up to n where h is greatest
@@ -120,4 +125,15 @@ GadgetValueLaw = (rule : Rule) (keeper roots factors grid : ℕ) (limits : ℕ �
     let whole = played (gadget rule (other keeper) roots factors limits f) keeper grid table in
     let further = length (further_sets rule roots) in
     ((i : ℕ) → i < further → best_value whole i ≡ further_value rule roots limits (best_value inner) i)
+    × ((J : ℕ) → J < length (reply_sets inner) → best_value whole (further + J) ≡ best_value inner J)
+
+-- so in an accepted game, whatever weights the keeper proposes in the subgame of a node where the opponent has a set
+abbrev pub GameGadgetValueLaw : Type 0
+GameGadgetValueLaw = (g : GameModel) (rule : Rule) (keeper : ℕ) (node table : List ℕ) (bounds : List ℤ) (weights : List ℕ) → game_ok g ≡ true → recall_fault g ≡ None
+    → 1 ≤ length (node_sets g (other keeper) node) →
+    let inner = played (subgame_form g keeper node table) keeper (grid_of g keeper) weights in
+    let whole = played (gadget_form g rule keeper node table bounds) keeper (grid_of g keeper) weights in
+    let roots = length (node_sets g (other keeper) node) in
+    let further = length (further_sets rule roots) in
+    ((i : ℕ) → i < further → best_value whole i ≡ further_value rule roots (node_limit g rule keeper node table bounds) (best_value inner) i)
     × ((J : ℕ) → J < length (reply_sets inner) → best_value whole (further + J) ≡ best_value inner J)
