@@ -34,13 +34,13 @@ further_some margin roots some zero l = some
 further_some margin roots some (suc J) l = absurd (omega (arith, l))
 
 -- the entry of a root set is there
-entry_there : (rule : Rule) (roots r : ℕ) → r < roots → IsStepBelow (further_sets rule roots) (length (further_sets rule roots)) (Some (entry rule r))
+pub entry_there : (rule : Rule) (roots r : ℕ) → r < roots → IsStepBelow (further_sets rule roots) (length (further_sets rule roots)) (Some (entry rule r))
 entry_there cfrd roots r l = (subst (λ n. r < n) (sym (length-replicate roots 2)) l, subst (λ n. 1 < n) (sym (get_or-replicate roots r 2 0 l)) (omega arith))
 entry_there reach roots r l = (subst (λ n. r < n) (sym (length-replicate roots 2)) l, subst (λ n. 1 < n) (sym (get_or-replicate roots r 2 0 l)) (omega arith))
 entry_there margin roots r l = (omega arith, l)
 
 -- and its end
-ending_there : (rule : Rule) (roots r : ℕ) → r < roots → IsStepBelow (further_sets rule roots) (length (further_sets rule roots)) (Some (ending rule r))
+pub ending_there : (rule : Rule) (roots r : ℕ) → r < roots → IsStepBelow (further_sets rule roots) (length (further_sets rule roots)) (Some (ending rule r))
 ending_there cfrd roots r l = (subst (λ n. r < n) (sym (length-replicate roots 2)) l, subst (λ n. 0 < n) (sym (get_or-replicate roots r 2 0 l)) (omega arith))
 ending_there reach roots r l = (subst (λ n. r < n) (sym (length-replicate roots 2)) l, subst (λ n. 0 < n) (sym (get_or-replicate roots r 2 0 l)) (omega arith))
 ending_there margin roots r l = (omega arith, l)
@@ -48,7 +48,7 @@ ending_there margin roots r l = (omega arith, l)
 -- ---- raised steps
 
 -- numbers are one where they are after both are raised
-eqb_raised : (n s J : ℕ) → eqb (n + s) (n + J) ≡ eqb s J
+pub eqb_raised : (n s J : ℕ) → eqb (n + s) (n + J) ≡ eqb s J
 eqb_raised n s J = elim (cases_eq s J) [
   | inl e ↦ eq-eqb (n + s) (n + J) (ap (λ x. n + x) e) ∙ sym (eq-eqb s J e)
   | inr ne ↦ eqb_apart (n + s) (n + J) (λ e. ne (omega (arith, e))) ∙ sym (eqb_apart s J ne)
@@ -95,18 +95,18 @@ before_entered rule n J t ts l h =
     at false e h = before_raised rule n J t ts h
 
 -- a path that enters passes where its steps do
-passes_entered : (rule : Rule) (n J : ℕ) (t : Taken) (ts : List Taken) → (entry rule t.set).set < n → passes_through (n + J) (entered rule n (t ∷ ts)) ≡ passes_through J (t ∷ ts)
+pub passes_entered : (rule : Rule) (n J : ℕ) (t : Taken) (ts : List Taken) → (entry rule t.set).set < n → passes_through (n + J) (entered rule n (t ∷ ts)) ≡ passes_through J (t ∷ ts)
 passes_entered rule n J t ts l =
     ap (λ c. c || passes_through (n + J) (map (raised n) (t ∷ ts))) (eqb_apart (entry rule t.set).set (n + J) (λ e. omega (arith, e, l))) ∙ passes_raised n J (t ∷ ts)
 
 -- ---- parents
 
 -- a path that enters by a root set does so at a further set
-entry_low : (rule : Rule) (roots : ℕ) (t : Taken) → t.set < roots → (entry rule t.set).set < length (further_sets rule roots)
+pub entry_low : (rule : Rule) (roots : ℕ) (t : Taken) → t.set < roots → (entry rule t.set).set < length (further_sets rule roots)
 entry_low rule roots t l = (entry_there rule roots t.set l).0
 
 -- a further set has no parent
-parent_low : (rule : Rule) (n J : ℕ) → J < n → (paths ends : List (List Taken)) → parent_along ends J ≡ None → parent_along (map (entered rule n) paths ++ ends) J ≡ None
+pub parent_low : (rule : Rule) (n J : ℕ) → J < n → (paths ends : List (List Taken)) → parent_along ends J ≡ None → parent_along (map (entered rule n) paths ++ ends) J ≡ None
 parent_low rule n J l [] ends none = none
 parent_low rule n J l ([] ∷ ps) ends none = parent_low rule n J l ps ends none
 parent_low rule n J l ((t ∷ ts) ∷ ps) ends none =
@@ -118,7 +118,7 @@ parent_low rule n J l ((t ∷ ts) ∷ ps) ends none =
     at false later rest = rest
 
 -- the last rows have one step each, so no parents
-ends_alone_along : (h : ℕ → Taken) (J s k : ℕ) → parent_along (map (λ i. h i ∷ []) (range_with_len s k)) J ≡ None
+pub ends_alone_along : (h : ℕ → Taken) (J s k : ℕ) → parent_along (map (λ i. h i ∷ []) (range_with_len s k)) J ≡ None
 ends_alone_along h J s zero = refl
 ends_alone_along h J s (suc k) = at (eqb (h s).set J) (ends_alone_along h J (s + 1) k)
   where
@@ -127,7 +127,7 @@ ends_alone_along h J s (suc k) = at (eqb (h s).set J) (ends_alone_along h J (s +
     at false rest = rest
 
 -- a raised set that a path passes through has its parent raised, or its entry
-parent_raised : (rule : Rule) (roots J : ℕ) (paths ends : List (List Taken)) → AllByRecursion (BeginsBelow roots) paths → list_any (passes_through J) paths ≡ true
+pub parent_raised : (rule : Rule) (roots J : ℕ) (paths ends : List (List Taken)) → AllByRecursion (BeginsBelow roots) paths → list_any (passes_through J) paths ≡ true
     → parent_along (map (entered rule (length (further_sets rule roots))) paths ++ ends) (length (further_sets rule roots) + J) ≡ Some (lifted rule (length (further_sets rule roots)) J (parent_along paths J))
 parent_raised rule roots J [] ends begins some = cc
 parent_raised rule roots J ([] ∷ ps) ends begins some = parent_raised rule roots J ps ends begins.1 some

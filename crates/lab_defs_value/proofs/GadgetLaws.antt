@@ -35,14 +35,14 @@ form_along ns seat rows h =
     (λ p k. path_same ns (parent_along (map (λ z. path_of z seat) rows)) (parent_in rows seat) (λ I. sym (rows_along seat I rows)) None p k) h)
 
 -- the paths of a seat in a form
-paths_along : (ns : List ℕ) (seat : ℕ) (rows : List Row) → AllByRecursion (λ z. IsPath ns (parent_in rows seat) None (path_of z seat)) rows
+pub paths_along : (ns : List ℕ) (seat : ℕ) (rows : List Row) → AllByRecursion (λ z. IsPath ns (parent_in rows seat) None (path_of z seat)) rows
     → AllByRecursion (IsPath ns (parent_along (map (λ z. path_of z seat) rows)) None) (map (λ z. path_of z seat) rows)
 paths_along ns seat rows h =
     all_map (λ z. IsPath ns (parent_in rows seat) None (path_of z seat)) (IsPath ns (parent_along (map (λ z. path_of z seat) rows)) None) (λ z. path_of z seat) rows
     (λ z k. path_same ns (parent_in rows seat) (parent_along (map (λ z. path_of z seat) rows)) (λ I. rows_along seat I rows) None (path_of z seat) k) h
 
 -- the opponent's path of a further row
-ends_at : (b : Bool) (rule : Rule) (factors i : ℕ) (limit : ℤ) → path_of (ending_row rule (cond b 2 1) factors i limit) (cond b 2 1) ≡ ending rule i ∷ []
+pub ends_at : (b : Bool) (rule : Rule) (factors i : ℕ) (limit : ℤ) → path_of (ending_row rule (cond b 2 1) factors i limit) (cond b 2 1) ≡ ending rule i ∷ []
 ends_at true rule factors i limit = refl
 ends_at false rule factors i limit = refl
 

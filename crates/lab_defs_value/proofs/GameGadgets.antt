@@ -66,7 +66,7 @@ numbers_kept q p d (x ∷ xs) s h =
     at false e = e
 
 -- the numbers of the sets at a node are as many as its sets
-node_sets_many : (g : GameModel) (seat : ℕ) (node : List ℕ) → length (node_sets g seat node) ≡ length (nodes.node_sets g seat node)
+pub node_sets_many : (g : GameModel) (seat : ℕ) (node : List ℕ) → length (node_sets g seat node) ≡ length (nodes.node_sets g seat node)
 node_sets_many g seat node =
     numbers_kept (λ I. begins (public_of g seat I) node && begins node (public_of g seat I)) (λ s. is_eq (list_cmp (publics s) node)) [] (sets g seat) 0
     (λ i l. ap (λ k. begins (public_of g seat k) node && begins node (public_of g seat k)) (zero-add i) ∙ same (publics (get_or (sets g seat) i [])))
@@ -152,7 +152,7 @@ module _ (g : GameModel) (seat : ℕ) (node : List ℕ) where
       (λ h i. comes_in (length h) h (omega arith) (in_from_filter (is_terminal g) (histories g) h (in_from_filter (λ h. begins node (public_list g h)) (terminal_histories g) h i).0).0)
 
 -- the rows of a subgame begin at root sets
-rows_begin : (g : GameModel) (keeper seat : ℕ) (node table : List ℕ) → (seat ≡ 1) ⊎ (seat ≡ 2) → All (λ z. BeginsBelow (length (node_sets g seat node)) (path_of z seat)) (subgame_form g keeper node table).rows
+pub rows_begin : (g : GameModel) (keeper seat : ℕ) (node table : List ℕ) → (seat ≡ 1) ⊎ (seat ≡ 2) → All (λ z. BeginsBelow (length (node_sets g seat node)) (path_of z seat)) (subgame_form g keeper node table).rows
 rows_begin g keeper seat node table (inl e) =
     let row = λ (h : History). subgame_row (part_at g keeper node table) (row_along g h) in
     subst (λ k. All (λ z. BeginsBelow (length (node_sets g k node)) (path_of z k)) (subgame_form g keeper node table).rows) (sym e)

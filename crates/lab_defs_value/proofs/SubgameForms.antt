@@ -64,7 +64,7 @@ pub push_outside : (s : Span) (p : List Taken) (t : Taken) → is_inside s t ≡
 push_outside s p t e = inner_push s p t ∙ ap (λ b. inner s p ++ cond b (lowered s t ∷ []) []) e ∙ append-nil (inner s p)
 
 -- what is inside lies between the ends
-inside_range : (s : Span) (t : Taken) → is_inside s t ≡ true → (s.start ≤ t.set) × (t.set < s.end)
+pub inside_range : (s : Span) (t : Taken) → is_inside s t ≡ true → (s.start ≤ t.set) × (t.set < s.end)
 inside_range s t e = let both = and_parts (nat_le s.start t.set) (nat_lt t.set s.end) e in (leb-true s.start t.set both.0, ltb-true t.set s.end both.1)
 
 -- two tests that follow from each other are one
@@ -137,7 +137,7 @@ module _ (g : GameModel) (seat : ℕ) (node : List ℕ) where
           by false q f = refl
 
   -- the last step inside along a history is the parent of what has been seen, where that is inside
-  last_inside : (h : History) → In h (histories g) → last_step (inner_along h) ≡ kept span (parent g seat (seen g seat h))
+  pub last_inside : (h : History) → In h (histories g) → last_step (inner_along h) ≡ kept span (parent g seat (seen g seat h))
   last_inside h i = at (history_cases g h i)
     where
       at : (h ≡ []) ⊎ Longer g (histories g) h → last_step (inner_along h) ≡ kept span (parent g seat (seen g seat h))
@@ -162,7 +162,7 @@ module _ (g : GameModel) (seat : ℕ) (node : List ℕ) where
   place k = set_number g seat (seen g seat k) - span.start
 
   -- the step before a set inside, on the part of a history's path, is its parent, where that is inside
-  before_inside : (n : ℕ) (h : History) → length h ≤ n → In h (histories g) → (k : History) → In k (inner_histories g) → span.start ≤ set_number g seat (seen g seat k)
+  pub before_inside : (n : ℕ) (h : History) → length h ≤ n → In h (histories g) → (k : History) → In k (inner_histories g) → span.start ≤ set_number g seat (seen g seat k)
       → passes_through (place k) (inner_along h) ≡ true → step_before (place k) None (inner_along h) ≡ kept span (parent g seat (seen g seat k))
   before_inside zero [] le i k j ge e = cc
   before_inside zero (s ∷ h) le i k j ge e = absurd (omega (arith, le))
@@ -208,7 +208,7 @@ module _ (g : GameModel) (seat : ℕ) (node : List ℕ) where
               ap (step_before (place k) None) whole ∙ rest r.before (shorter g seat n h r le) r.there (sym (ap (passes_through (place k)) whole) ∙ e)
 
   -- so is the parent along histories, where one of them comes to the set
-  along_inside : (hs : List History) → AllByRecursion (λ h. In h (histories g)) hs → (k : History) → In k (inner_histories g) → span.start ≤ set_number g seat (seen g seat k)
+  pub along_inside : (hs : List History) → AllByRecursion (λ h. In h (histories g)) hs → (k : History) → In k (inner_histories g) → span.start ≤ set_number g seat (seen g seat k)
       → list_any (passes_through (place k)) (map inner_along hs) ≡ true → parent_along (map inner_along hs) (place k) ≡ kept span (parent g seat (seen g seat k))
   along_inside [] all k j ge e = cc
   along_inside (h ∷ hs) all k j ge e = at (passes_through (place k) (inner_along h)) refl e (along_inside hs all.1 k j ge)

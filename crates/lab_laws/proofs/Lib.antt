@@ -16,3 +16,6 @@ pub mod SizeChance
 pub mod SizeRows
 pub mod SizeGadgets
 pub mod SizeCounts
+pub mod RuleEntries
+pub mod RuleGadgets
+pub mod RuleNodes

@@ -1,14 +1,24 @@
 -- Best replies that are computed from the last set back, what a rule's allowances keep, and what gadgets are worth.
-use Rattle.std.specs.Prelude.{◌≡◌, ℕ, zero, suc, ◌-◌, ◌^◌, ◌<◌, ◌≤◌, ℤ, pos, ◌*ℤ◌, ◌≤ℤ◌, ◌+ℤ◌, ◌-ℤ◌, List, [], ◌∷◌, length, map, filter, nat_lt, true, false, None, if◌then◌else◌, int_le, slice_index}
+use Rattle.std.specs.Prelude.{◌≡◌, ℕ, zero, suc, ◌-◌, ◌^◌, ◌<◌, ◌≤◌, ℤ, pos, ◌*ℤ◌, ◌≤ℤ◌, ◌+ℤ◌, ◌-ℤ◌, List, [], ◌∷◌, length, map, filter, nat_lt, true, false, None, if◌then◌else◌, int_le, slice_index, ◌+◌, All}
 use Rattle.std.specs.List.{range_with_len}
+use Rattle.std.specs.Int.{int_max}
 use Rattle.lab_math.specs.Sums.{total, sum_over}
 use Rattle.lab_math.specs.Greatest.{greatest_of}
-use Rattle.lab_defs_value.specs.Replies.{Strategy, Reply, IsReply, reply_sets, reply_factors, earned}
+use Rattle.lab_defs_text.specs.Games.{GameModel}
+use Rattle.lab_defs_text.specs.Texts.{game_ok}
+use Rattle.lab_defs_game.specs.Forms.{Form, path_of}
+use Rattle.lab_defs_game.specs.Recall.{recall_fault}
+use Rattle.lab_defs_value.specs.Expectation.{grid_of}
+use Rattle.lab_defs_value.specs.Parents.{parent_in, IsForm}
+use Rattle.lab_defs_value.specs.Replies.{Strategy, Reply, IsReply, other, reply_sets, reply_factors, earned}
 use Rattle.lab_defs_value.specs.BestValues.{IsBest, IsChoice, pure_reply, best_value}
 use Rattle.lab_defs_value.specs.Bounds.{at, through, Holds, IsBackedUp}
-use Rattle.lab_defs_value.specs.Allowances.{Rule, lies_on, parent, followers, allowance, Ascends}
+use Rattle.lab_defs_value.specs.Allowances.{Rule, cfrd, reach, margin, lies_on, parent, followers, allowance, node_sets, Ascends}
 use Rattle.lab_defs_value.specs.Passes.{limit}
 use Rattle.lab_defs_value.specs.Laws.{Sound}
+use Rattle.lab_defs_value.specs.Subgames.{subgame_form}
+use Rattle.lab_defs_value.specs.Gadgets.{further_sets, gadget, node_limit, gadget_form}
+use Rattle.lab_defs_value.specs.MatchingLaws.{BeginsBelow}
 
 -- the first of the numbers up to n where h is greatest
 abbrev pub first_greatest : (n : ℕ) → (h : ℕ → ℤ) → ℕ
@@ -88,3 +98,42 @@ RuleLaw = (rule : Rule) (s : Strategy) → Sound s → (B : ℕ → ℤ) → Hol
     → (V : ℕ → ℤ) → IsAlong rule s B path node V
     → (I : ℕ) → lies_on path I ≡ true
     → (V I ≤ℤ limit B (allowance rule s B path) I) × (parent s I ≡ None → V I ≤ℤ B I) × (I ≡ 0 → V I ≤ℤ B I)
+
+-- ---- gadgets
+
+-- a seat that plays a table in a form
+abbrev pub played : Form → (keeper grid : ℕ) → (table : List ℕ) → Strategy
+played f keeper grid table = record { form = f; keeper = keeper; grid = grid; table = table }
+
+-- the opponent comes into a form at root sets, its first ones, which follow none
+pub record IsEntered (f : Form) (opponent roots : ℕ) : Type 0 where
+  pub form : IsForm f opponent
+  pub some : 1 ≤ roots
+  pub begins : All (λ z. BeginsBelow roots (path_of z opponent)) f.rows
+  pub first : (i : ℕ) → i < roots → parent_in f.rows opponent i ≡ None
+
+-- what a further set is worth: the greater of the limit and the value of its root set, or the greatest that a root set's value is above its limit
+abbrev pub further_value : Rule → (roots : ℕ) → (limits values : ℕ → ℤ) → ℕ → ℤ
+further_value cfrd roots limits values i = int_max (limits i) (values i)
+further_value reach roots limits values i = int_max (limits i) (values i)
+further_value margin roots limits values i = greatest_of (map (λ k. values k -ℤ limits k) (range_with_len 0 roots))
+
+-- the best values on a gadget: at its further sets these, and behind them those of the subgame
+abbrev pub GadgetValueLaw : Type 0
+GadgetValueLaw = (rule : Rule) (keeper roots factors grid : ℕ) (limits : ℕ → ℤ) (f : Form) (table : List ℕ) → IsEntered f (other keeper) roots →
+    let inner = played f keeper grid table in
+    let whole = played (gadget rule (other keeper) roots factors limits f) keeper grid table in
+    let further = length (further_sets rule roots) in
+    ((i : ℕ) → i < further → best_value whole i ≡ further_value rule roots limits (best_value inner) i)
+    × ((J : ℕ) → J < length (reply_sets inner) → best_value whole (further + J) ≡ best_value inner J)
+
+-- so in an accepted game, whatever weights the keeper proposes in the subgame of a node where the opponent has a set
+abbrev pub GameGadgetValueLaw : Type 0
+GameGadgetValueLaw = (g : GameModel) (rule : Rule) (keeper : ℕ) (node table : List ℕ) (bounds : List ℤ) (weights : List ℕ) → game_ok g ≡ true → recall_fault g ≡ None
+    → 1 ≤ length (node_sets g (other keeper) node) →
+    let inner = played (subgame_form g keeper node table) keeper (grid_of g keeper) weights in
+    let whole = played (gadget_form g rule keeper node table bounds) keeper (grid_of g keeper) weights in
+    let roots = length (node_sets g (other keeper) node) in
+    let further = length (further_sets rule roots) in
+    ((i : ℕ) → i < further → best_value whole i ≡ further_value rule roots (node_limit g rule keeper node table bounds) (best_value inner) i)
+    × ((J : ℕ) → J < length (reply_sets inner) → best_value whole (further + J) ≡ best_value inner J)

@@ -1,6 +1,6 @@
 //! What best replies earn, what each rule keeps, and what gadgets are worth.
 
-ghost use Rattle.lab_laws.specs.Rules.{FirstGreatestLaw, BestRepliesLaw, AllowanceLaw, RuleLaw};
+ghost use Rattle.lab_laws.specs.Rules.{FirstGreatestLaw, BestRepliesLaw, AllowanceLaw, RuleLaw, GadgetValueLaw, GameGadgetValueLaw};
 
 /// Best replies are found from the last set back: the values that are backed up are the best ones, and one pure
 /// reply, the first greatest action at each set, earns all of them.
@@ -14,4 +14,11 @@ pub fn best_replies()
 pub fn rule_laws()
     ensures allowances { AllowanceLaw }
     ensures keeps { RuleLaw }
+{}
+
+/// A gadget adds to the subgame what its rule asks: at each further set the greater of the limit and of what the
+/// subgame is worth there, or at its one further set the greatest excess over the limits.
+pub fn gadget_values()
+    ensures forms { GadgetValueLaw }
+    ensures games { GameGadgetValueLaw }
 {}
