@@ -83,7 +83,7 @@ count_push p [] x = omega arith
 count_push p (y ∷ xs) x = omega (arith, count_push p xs x)
 
 -- one more world is counted where the seat decides
-decisions_push : (g : GameModel) (seat n : ℕ) (h : History) (s : Step)
+pub decisions_push : (g : GameModel) (seat n : ℕ) (h : History) (s : Step)
     → decisions_from g seat n (h ++ s ∷ []) ≡ decisions_from g seat n h + cond (nat_le 2 (actions_at seat (place_at g (reached g n h)))) 1 0
 decisions_push g seat n [] s = omega arith
 decisions_push g seat n (t ∷ h) s = omega (arith, decisions_push g seat (outcome_of g n t).next h s)

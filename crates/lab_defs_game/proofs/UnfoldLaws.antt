@@ -36,7 +36,7 @@ none_found g (suc n) t e s lo hi = at (nat_lt history_limit (history_count g t))
     at false q f (inr l) rest = let st : t ≡ s = omega (arith, lo, l) in subst (λ x. history_count g x ≤ history_limit) st (ltb-false history_limit (history_count g t) q)
 
 -- the histories are few exactly where no depth is found
-few_is : (g : GameModel) → IsFew g ↔ (first_too_many g 0 (g.horizon + 1) ≡ None)
+pub few_is : (g : GameModel) → IsFew g ↔ (first_too_many g 0 (g.horizon + 1) ≡ None)
 few_is g = (there, λ e t l. none_found g (g.horizon + 1) 0 e t (omega arith) (omega (arith, l)))
   where
     pick : (o : Option ℕ) → first_too_many g 0 (g.horizon + 1) ≡ o → IsFew g → o ≡ None

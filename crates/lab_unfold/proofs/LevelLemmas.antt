@@ -183,14 +183,6 @@ few_more g t few next s l = at (cases_lt t s)
     at (inl h) = let e : t + 1 ≡ s = omega (arith, h, l) in subst (λ n. history_count g n ≤ 65536) e next
     at (inr h) = few s h
 
--- where they are few up to the horizon, no depth is found
-pub few_none : (g : GameModel) → IsFew g → first_too_many g 0 (g.horizon + 1) ≡ None
-few_none g few = at (first_too_many g 0 (g.horizon + 1)) refl
-  where
-    at : (o : Option ℕ) → first_too_many g 0 (g.horizon + 1) ≡ o → o ≡ None
-    at None e = refl
-    at (Some d) e = let r = found_first g (g.horizon + 1) 0 d e in let le = few d (omega (arith, r.1)) in absurd (omega (arith, r.2.0, le))
-
 -- where they are too many at t + 1 steps first, that is the reason
 pub too_many : (g : GameModel) (t : ℕ) → t < g.horizon → ((s : ℕ) → s ≤ t → history_count g s ≤ 65536) → 65536 < length (histories_to g (t + 1)) → unfold_fault g ≡ Some (too_many_histories (t + 1))
 too_many g t l few more =

@@ -11,6 +11,7 @@ use Rattle.lab_defs_text.specs.Texts.{place_at}
 use Rattle.lab_defs_game.specs.Histories as model
 use Rattle.lab_defs_game.specs.Laws.{history_cmp, step_cmp}
 use Rattle.lab_defs_game.specs.Sets.{decisions_from, most_decisions}
+use Rattle.lab_defs_game.proofs.FormLemmas.{decisions_push}
 use Rattle.lab_defs_game.proofs.GameLemmas.{Longer, history_cases}
 use Rattle.lab_defs_game.proofs.HistoryOrder.{history_total, nat_cmp-less}
 use Rattle.lab_defs_game.proofs.Legal.{length_push, history_legal}
@@ -110,16 +111,10 @@ pub read_first : (g : GameModel) (i : ℕ) (items : List History) (d : History) 
     → (get_or items i d).parent ≡ None → history_at g i ≡ []
 read_first g i items d all l e = no_parent g (history_at g i) (sym (ap (λ (h : History). h.parent) (read_is g i items d all l)) ∙ e)
 
--- decisions with one more step
-decisions_more : (g : GameModel) (seat n : ℕ) (h : model.History) (s : model.Step)
-    → decisions_from g seat n (h ++ s ∷ []) ≡ decisions_from g seat n h + cond (nat_le 2 (model.actions_at seat (place_at g (model.reached g n h)))) 1 0
-decisions_more g seat n [] s = omega arith
-decisions_more g seat n (t ∷ h) s = omega (arith, decisions_more g seat (model.outcome_of g n t).next h s)
-
 -- decisions of a history are those of the one before, with that at its place
 pub decisions_behind : (g : GameModel) (seat i j : ℕ) → Behind g i j
     → decisions_from g seat g.root (history_at g i) ≡ decisions_from g seat g.root (history_at g j) + cond (nat_le 2 (model.actions_at seat (model.place_of g (history_at g j)))) 1 0
-decisions_behind g seat i j b = ap (decisions_from g seat g.root) b.made ∙ decisions_more g seat g.root (history_at g j) b.step
+decisions_behind g seat i j b = ap (decisions_from g seat g.root) b.made ∙ decisions_push g seat g.root (history_at g j) b.step
 
 -- there are no more decisions than steps
 decisions_few : (g : GameModel) (seat n : ℕ) (h : model.History) → decisions_from g seat n h ≤ length h
