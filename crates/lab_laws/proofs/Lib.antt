@@ -11,3 +11,5 @@ pub mod SizeChance
 pub mod SizeRows
 pub mod SizeGadgets
 pub mod SizeCounts
+pub mod SizeSums
+pub mod SizeTallies
