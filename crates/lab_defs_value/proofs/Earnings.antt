@@ -9,7 +9,7 @@ use Rattle.lab_defs_value.specs.Matching.{Pair, grid_in, sets_in, table_in, weig
 use Rattle.lab_defs_value.specs.MatchingLaws.{HasFactors, EarningLaw}
 
 -- the decisions of a path are those before a set and those from it on
-deciding_splits : (ns : List ℕ) (I : ℕ) (path : List Taken) → deciding ns path ≡ deciding ns (path_before I path) + deciding ns (path_from I path)
+pub deciding_splits : (ns : List ℕ) (I : ℕ) (path : List Taken) → deciding ns path ≡ deciding ns (path_before I path) + deciding ns (path_from I path)
 deciding_splits ns I [] = refl
 deciding_splits ns I (t ∷ ts) = at (eqb t.set I) (deciding_splits ns I ts)
   where

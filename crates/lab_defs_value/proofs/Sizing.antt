@@ -27,7 +27,7 @@ steps_of ns parent before [] h = tt
 steps_of ns parent before (t ∷ ts) h = (h.2, steps_of ns parent (Some t) ts h.3)
 
 -- and of a part of it
-steps_from : (ns : List ℕ) (I : ℕ) (path : List Taken) → Steps ns path → Steps ns (path_from I path)
+pub steps_from : (ns : List ℕ) (I : ℕ) (path : List Taken) → Steps ns path → Steps ns (path_from I path)
 steps_from ns I [] h = tt
 steps_from ns I (t ∷ ts) h = at (eqb t.set I) (steps_from ns I ts h.1)
   where
@@ -45,7 +45,7 @@ deciding_from ns I (t ∷ ts) = at (eqb t.set I) (deciding_from ns I ts)
     at false rest = omega (arith, rest)
 
 -- the weights on a path are at most the reply's number to its decisions
-product_le : (ns : List ℕ) (r : Reply) → IsReply ns r → (path : List Taken) → Steps ns path → product_over (reply_factor ns r) path ≤ r.all ^ deciding ns path
+pub product_le : (ns : List ℕ) (r : Reply) → IsReply ns r → (path : List Taken) → Steps ns path → product_over (reply_factor ns r) path ≤ r.all ^ deciding ns path
 product_le ns r isr [] h = le_of_eq (sym (pow-zero r.all))
 product_le ns r isr (t ∷ ts) h = at (decides ns t.set) refl (product_le ns r isr ts h.1)
   where

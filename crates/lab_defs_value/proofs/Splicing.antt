@@ -32,7 +32,7 @@ first_weight_le (n ∷ ns) (suc J) zero h = absurd (omega (arith, h))
 first_weight_le (n ∷ ns) (suc J) (suc K) h = omega (arith, first_weight_le ns J K (omega (arith, h)))
 
 -- a deciding set is there
-decides_there : (ns : List ℕ) (J : ℕ) → decides ns J ≡ true → J < length ns
+pub decides_there : (ns : List ℕ) (J : ℕ) → decides ns J ≡ true → J < length ns
 decides_there [] zero e = cc
 decides_there [] (suc J) e = cc
 decides_there (n ∷ ns) zero e = omega arith

@@ -19,3 +19,5 @@ pub mod SizeCounts
 pub mod RuleEntries
 pub mod RuleGadgets
 pub mod RuleNodes
+pub mod SizeSums
+pub mod SizeTallies

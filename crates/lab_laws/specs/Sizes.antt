@@ -1,11 +1,14 @@
 -- How large the numbers of a session are.
-use Rattle.std.specs.Prelude.{◌≡◌, ◌⊎◌, All, ℕ, ◌+◌, ◌*◌, ◌^◌, ◌<◌, ◌≤◌, max, unsigned_abs, pos, neg_ℤ, ◌≤ℤ◌, List, length}
+use Rattle.std.specs.Prelude.{◌≡◌, ◌⊎◌, All, ℕ, ◌+◌, ◌*◌, ◌^◌, ◌<◌, ◌≤◌, max, unsigned_abs, true, slice_index, ℤ, pos, neg_ℤ, ◌≤ℤ◌, List, length}
 use Rattle.lab_defs_text.specs.Games.{GameModel}
 use Rattle.lab_defs_game.specs.Sets.{sets, most_decisions}
 use Rattle.lab_defs_game.specs.Chance.{scale}
-use Rattle.lab_defs_game.specs.Forms.{Row, Form, form_of, game_actions, actions_of, path_of, pad_of, deciding}
+use Rattle.lab_defs_game.specs.Forms.{Row, Form, form_of, game_actions, actions_of, path_of, pad_of, decides, deciding}
 use Rattle.lab_defs_game.specs.Unfolding.{top_payoff}
-use Rattle.lab_defs_value.specs.Expectation.{grid_of}
+use Rattle.lab_defs_value.specs.Expectation.{grid_of, expectation}
+use Rattle.lab_defs_value.specs.Parents.{IsForm}
+use Rattle.lab_defs_value.specs.Laws.{worth_sizes}
+use Rattle.lab_defs_value.specs.Matching.{Pair, grid_in, table_in, sets_in, weight_in, worth_in, action_value, set_value, reach_in, Tally, regrets_of, sums_of, tally_after}
 use Rattle.lab_defs_value.specs.Replies.{IsTable, strategy_of, other}
 use Rattle.lab_defs_value.specs.BestValues.{best_value}
 use Rattle.lab_defs_value.specs.Bounds.{at}
@@ -66,3 +69,30 @@ SmallLaw = (g : GameModel) → IsAccepted g →
     × ((keeper : ℕ) → (keeper ≡ 1) ⊎ (keeper ≡ 2) → (node table : List ℕ) → IsTable (game_actions g keeper) (grid_of g keeper) table
     → IsSmall (grid_of g 1) (grid_of g 2) (subgame_form g keeper node table)
     × ((rule : Rule) → IsSmall (grid_of g 1) (grid_of g 2) (gadget_form g rule keeper node table (tight_bounds g keeper table))))
+
+-- a table of each seat on its grid, in a small form
+pub record IsSmallPair (p : Pair) : Type 0 where
+  pub form1 : IsForm p.form 1
+  pub form2 : IsForm p.form 2
+  pub small : IsSmall p.grid1 p.grid2 p.form
+  pub is1 : IsTable p.form.actions1 p.grid1 p.table1
+  pub is2 : IsTable p.form.actions2 p.grid2 p.table2
+
+-- what the rows are worth to a seat, by the other's table, without their signs
+abbrev pub worths_to : Pair → ℕ → ℕ
+worths_to p seat = worth_sizes (record { form = p.form; keeper = other seat; grid = grid_in p (other seat); table = table_in p (other seat) })
+
+-- in a small form what a seat expects, what the rows are worth to it together, and the values of its deciding sets and of their actions are at most 2^94; the weights up to such a set, times that of an action there, at most 2^77
+abbrev pub SumLaw : Type 0
+SumLaw = (p : Pair) → IsSmallPair p →
+    (unsigned_abs (expectation p.grid1 p.grid2 p.form p.table1 p.table2) ≤ 2 ^ 94)
+    × ((seat : ℕ) → (seat ≡ 1) ⊎ (seat ≡ 2) → (worths_to p seat ≤ 2 ^ 94)
+    × ((I : ℕ) → decides (sets_in p seat) I ≡ true → (unsigned_abs (set_value p seat I) ≤ 2 ^ 94)
+    × ((a : ℕ) → unsigned_abs (action_value p seat I a) ≤ 2 ^ 94)
+    × ((a : ℕ) → a < slice_index (sets_in p seat) I → reach_in p seat p.form.rows I * weight_in p seat I a ≤ 2 ^ 77)))
+
+-- in a small form no regret passes 2^107 after at most 4096 rounds, and no sum of the weights reached 2^89
+abbrev pub TallySizeLaw : Type 0
+TallySizeLaw = (grid1 grid2 : ℕ) (f : Form) → IsForm f 1 → IsForm f 2 → IsSmall grid1 grid2 f → (rounds : ℕ) → rounds ≤ 4096 → (seat : ℕ) → (seat ≡ 1) ⊎ (seat ≡ 2) →
+    let t = tally_after grid1 grid2 f rounds in
+    All (λ x. unsigned_abs x ≤ 2 ^ 107) (regrets_of t seat) × All (λ x. unsigned_abs x ≤ 2 ^ 89) (sums_of t seat)

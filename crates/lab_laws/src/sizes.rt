@@ -1,6 +1,6 @@
 //! How large the numbers of a session are.
 
-ghost use Rattle.lab_laws.specs.Sizes.{RangeLaw, LimitLaw, RowLaw, SmallLaw};
+ghost use Rattle.lab_laws.specs.Sizes.{RangeLaw, LimitLaw, RowLaw, SmallLaw, SumLaw, TallySizeLaw};
 
 /// No best value against a table passes the greatest payoff in the units of the bounds.
 pub fn ranges()
@@ -20,4 +20,14 @@ pub fn small_rows()
 /// The form of a game, of a subgame and of a gadget is small.
 pub fn small_forms()
     ensures { SmallLaw }
+{}
+
+/// In a small form no expectation and no value passes 2^94.
+pub fn small_sums()
+    ensures { SumLaw }
+{}
+
+/// In a small form no regret passes 2^107, and no sum for the averages 2^89.
+pub fn small_tallies()
+    ensures { TallySizeLaw }
 {}
