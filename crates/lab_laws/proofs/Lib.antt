@@ -9,3 +9,5 @@ pub mod RulePaths
 pub mod RuleEntries
 pub mod RuleGadgets
 pub mod RuleNodes
+pub mod RuleParts
+pub mod RuleSubgames
