@@ -22,7 +22,7 @@ rows_along seat I [] = refl
 rows_along seat I (z ∷ zs) = ap (λ t. cond (passes_through I (path_of z seat)) (step_before I None (path_of z seat)) t) (rows_along seat I zs)
 
 -- what holds of all images holds of all that they are of
-all_of_map : {X Y : Type 0} (Q : Y → Type 0) (g : X → Y) (xs : List X) → AllByRecursion Q (map g xs) → AllByRecursion (λ x. Q (g x)) xs
+pub all_of_map : {X Y : Type 0} (Q : Y → Type 0) (g : X → Y) (xs : List X) → AllByRecursion Q (map g xs) → AllByRecursion (λ x. Q (g x)) xs
 all_of_map Q g [] h = tt
 all_of_map Q g (x ∷ xs) h = (h.0, all_of_map Q g xs h.1)
 

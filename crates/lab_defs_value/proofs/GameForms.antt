@@ -69,7 +69,7 @@ module _ (g : GameModel) (seat : ℕ) where
   taken_at k s = record { set = set_number g seat (seen g seat k); action = if seat == 1 then s.action1 else s.action2 }
 
   -- the last step along a history is the parent of what has been seen
-  last_is : (h : History) → In h (histories g) → last_step (path_along g seat h) ≡ parent g seat (seen g seat h)
+  pub last_is : (h : History) → In h (histories g) → last_step (path_along g seat h) ≡ parent g seat (seen g seat h)
   last_is h i = at (history_cases g h i)
     where
       at : (h ≡ []) ⊎ Longer g (histories g) h → last_step (path_along g seat h) ≡ parent g seat (seen g seat h)
@@ -123,7 +123,7 @@ module _ (g : GameModel) (seat : ℕ) where
               before_now J None (path_along g seat r.before) (taken_at r.before r.step) q now ∙ last_is r.before r.there ∙ ap (parent g seat) same
 
   -- so is the parent along histories, where one of them comes to the set
-  along_is : (hs : List History) → AllByRecursion (λ h. In h (histories g)) hs → (k : History) → In k (inner_histories g)
+  pub along_is : (hs : List History) → AllByRecursion (λ h. In h (histories g)) hs → (k : History) → In k (inner_histories g)
       → list_any (passes_through (set_number g seat (seen g seat k))) (map (path_along g seat) hs) ≡ true → parent_along (map (path_along g seat) hs) (set_number g seat (seen g seat k)) ≡ parent g seat (seen g seat k)
   along_is [] all k j e = cc
   along_is (h ∷ hs) all k j e = at (passes_through (set_number g seat (seen g seat k)) (path_along g seat h)) refl e (along_is hs all.1 k j)

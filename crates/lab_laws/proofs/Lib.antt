@@ -21,3 +21,5 @@ pub mod RuleGadgets
 pub mod RuleNodes
 pub mod SizeSums
 pub mod SizeTallies
+pub mod RuleParts
+pub mod RuleSubgames

@@ -1,21 +1,23 @@
 -- Best replies that are computed from the last set back, what a rule's allowances keep, and what gadgets are worth.
-use Rattle.std.specs.Prelude.{◌≡◌, ℕ, zero, suc, ◌-◌, ◌^◌, ◌<◌, ◌≤◌, ℤ, pos, ◌*ℤ◌, ◌≤ℤ◌, ◌+ℤ◌, ◌-ℤ◌, List, [], ◌∷◌, length, map, filter, nat_lt, true, false, None, if◌then◌else◌, int_le, slice_index, ◌+◌, All}
+use Rattle.std.specs.Prelude.{◌≡◌, ◌⊎◌, ℕ, zero, suc, ◌-◌, ◌^◌, ◌<◌, ◌≤◌, ℤ, pos, ◌*ℤ◌, ◌≤ℤ◌, ◌+ℤ◌, ◌-ℤ◌, List, [], ◌∷◌, length, map, filter, nat_lt, true, false, None, if◌then◌else◌, int_le, slice_index, ◌+◌, All}
 use Rattle.std.specs.List.{range_with_len}
 use Rattle.std.specs.Int.{int_max}
 use Rattle.lab_math.specs.Sums.{total, sum_over}
 use Rattle.lab_math.specs.Greatest.{greatest_of}
 use Rattle.lab_defs_text.specs.Games.{GameModel}
 use Rattle.lab_defs_text.specs.Texts.{game_ok}
-use Rattle.lab_defs_game.specs.Forms.{Form, path_of}
+use Rattle.lab_defs_game.specs.Forms.{Form, path_of, game_actions}
+use Rattle.lab_defs_game.specs.Nodes.{span_from, span_to}
 use Rattle.lab_defs_game.specs.Recall.{recall_fault}
 use Rattle.lab_defs_value.specs.Expectation.{grid_of}
 use Rattle.lab_defs_value.specs.Parents.{parent_in, IsForm}
-use Rattle.lab_defs_value.specs.Replies.{Strategy, Reply, IsReply, other, reply_sets, reply_factors, earned}
+use Rattle.lab_defs_value.specs.Replies.{Strategy, Reply, IsReply, strategy_of, other, reply_sets, reply_factors, earned}
 use Rattle.lab_defs_value.specs.BestValues.{IsBest, IsChoice, pure_reply, best_value}
 use Rattle.lab_defs_value.specs.Bounds.{at, through, Holds, IsBackedUp}
 use Rattle.lab_defs_value.specs.Allowances.{Rule, cfrd, reach, margin, lies_on, parent, followers, allowance, node_sets, Ascends}
 use Rattle.lab_defs_value.specs.Passes.{limit}
 use Rattle.lab_defs_value.specs.Laws.{Sound}
+use Rattle.lab_defs_value.specs.Splices.{FitsSpan, spliced}
 use Rattle.lab_defs_value.specs.Subgames.{subgame_form}
 use Rattle.lab_defs_value.specs.Gadgets.{further_sets, gadget, node_limit, gadget_form}
 use Rattle.lab_defs_value.specs.MatchingLaws.{BeginsBelow}
@@ -137,3 +139,11 @@ GameGadgetValueLaw = (g : GameModel) (rule : Rule) (keeper : ℕ) (node table : 
     let further = length (further_sets rule roots) in
     ((i : ℕ) → i < further → best_value whole i ≡ further_value rule roots (node_limit g rule keeper node table bounds) (best_value inner) i)
     × ((J : ℕ) → J < length (reply_sets inner) → best_value whole (further + J) ≡ best_value inner J)
+
+-- in an accepted game the best values in the subgame of a node are those of the whole game, where the keeper's table has the weights in it
+abbrev pub SubgameValueLaw : Type 0
+SubgameValueLaw = (g : GameModel) (keeper : ℕ) (node table weights : List ℕ) → game_ok g ≡ true → recall_fault g ≡ None → (keeper ≡ 1) ⊎ (keeper ≡ 2)
+    → FitsSpan (game_actions g keeper) (span_from g keeper node) (span_to g keeper node) table weights →
+    let inner = played (subgame_form g keeper node table) keeper (grid_of g keeper) weights in
+    let whole = strategy_of g keeper (spliced (game_actions g keeper) (span_from g keeper node) (span_to g keeper node) table weights) in
+    (J : ℕ) → J < length (reply_sets inner) → best_value inner J ≡ best_value whole (span_from g (other keeper) node + J)

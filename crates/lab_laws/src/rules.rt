@@ -1,6 +1,6 @@
 //! What best replies earn, what each rule keeps, and what gadgets are worth.
 
-ghost use Rattle.lab_laws.specs.Rules.{FirstGreatestLaw, BestRepliesLaw, AllowanceLaw, RuleLaw, GadgetValueLaw, GameGadgetValueLaw};
+ghost use Rattle.lab_laws.specs.Rules.{FirstGreatestLaw, BestRepliesLaw, AllowanceLaw, RuleLaw, GadgetValueLaw, GameGadgetValueLaw, SubgameValueLaw};
 
 /// Best replies are found from the last set back: the values that are backed up are the best ones, and one pure
 /// reply, the first greatest action at each set, earns all of them.
@@ -21,4 +21,10 @@ pub fn rule_laws()
 pub fn gadget_values()
     ensures forms { GadgetValueLaw }
     ensures games { GameGadgetValueLaw }
+{}
+
+/// What the opponent can earn in a subgame against weights there is what it can earn at these sets in the whole game,
+/// against the table that has the weights in it.
+pub fn subgame_values()
+    ensures { SubgameValueLaw }
 {}
