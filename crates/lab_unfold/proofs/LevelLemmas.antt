@@ -1,15 +1,15 @@
 -- Histories by their number of steps, and as the program has them.
-use Rattle.std.proofs.Common.{◌≡◌, ℕ, zero, suc, ◌+◌, ◌-◌, ◌<◌, ◌≤◌, List, [], ◌∷◌, ◌++◌, length, get_or, map, flat_map, take, drop, Option, Some, None, refl, sym, ap, ◌∙◌, subst, arith, append_assoc, length-append, ◌⊎◌, inl, inr}
+use Rattle.std.proofs.Common.{◌≡◌, ℕ, zero, suc, ◌+◌, ◌-◌, ◌<◌, ◌≤◌, List, [], ◌∷◌, ◌++◌, length, get_or, map, flat_map, take, drop, Option, Some, refl, sym, ap, ◌∙◌, subst, arith, append_assoc, length-append, ◌⊎◌, inl, inr}
 use Rattle.std.proofs.lemmas.List.{length-map, map-append, append-nil, get_or_append_left, get_or-take, get_or-map, drop_more, take-append-le, length-take}
 use Rattle.std.proofs.lemmas.Bool.{cases_lt}
 use Rattle.std.proofs.Math.Seq.{drop-append_seam}
 use Rattle.lab_math.proofs.Members.{in_get_or}
 use Rattle.lab_defs_text.specs.Games.{GameModel}
 use Rattle.lab_defs_game.specs.Histories as model
-use Rattle.lab_defs_game.specs.Laws.{history_cmp, IsFew}
-use Rattle.lab_defs_game.specs.Unfolding.{standing, history_count, first_too_many, unfold_fault, too_many_histories}
+use Rattle.lab_defs_game.specs.Laws.{history_cmp}
+use Rattle.lab_defs_game.specs.Unfolding.{standing, history_count, unfold_fault, too_many_histories}
 use Rattle.lab_defs_game.proofs.GameLemmas.{reached_push}
-use Rattle.lab_defs_game.proofs.HistoryCounts.{level, standing_is, with_longer_level, history_count_law, found_first}
+use Rattle.lab_defs_game.proofs.HistoryCounts.{level, standing_is, with_longer_level, history_count_law}
 use Rattle.lab_defs_game.proofs.HistoryOrder.{history_total, history_order_law}
 use Rattle.lab_defs_game.proofs.KeyLemmas.{Ascending, ascending_from_sorted}
 use Rattle.lab_defs_game.proofs.Legal.{length_push, history_legal}
