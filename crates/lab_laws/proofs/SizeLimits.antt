@@ -1,31 +1,29 @@
 -- How far limits lie: bound and allowance together, with the top payoff times the mass, don't grow along the path to a node.
-use Rattle.std.proofs.Common.{◌≡◌, ℕ, zero, suc, ◌+◌, ◌*◌, ◌-◌, ◌/◌, ◌%◌, ◌^◌, ◌<◌, ◌≤◌, ℤ, pos, negsuc, neg_ℤ, ◌+ℤ◌, ◌-ℤ◌, ◌*ℤ◌, ◌≤ℤ◌, List, [], ◌∷◌, Bool, true, false, cond, ◌&&◌, eqb, ltb, Option, Some, None, length, map, max, refl, sym, ap, ◌∙◌, subst, arith, inl, inr, ◌⊎◌, mul-le-mul, le_of_eq}
+use Rattle.std.proofs.Common.{◌≡◌, ℕ, zero, suc, ◌+◌, ◌*◌, ◌/◌, ◌%◌, ◌^◌, ◌<◌, ◌≤◌, ℤ, pos, negsuc, neg_ℤ, ◌+ℤ◌, ◌-ℤ◌, ◌*ℤ◌, ◌≤ℤ◌, List, Bool, true, false, cond, ◌&&◌, eqb, ltb, Option, Some, None, length, map, max, refl, sym, ap, ◌∙◌, subst, arith, mul-le-mul, le_of_eq}
 use Rattle.std.proofs.Math.Nat.{div-zero, mod-le}
 use Rattle.std.specs.Prelude.{unsigned_abs, slice_index}
 use Rattle.std.proofs.lemmas.Int.{ints}
 use Rattle.std.proofs.lemmas.Bool.{ltb-true, lt-ltb}
-use Rattle.lab_math.specs.Sums.{total, sum_over}
+use Rattle.lab_math.specs.Sums.{total}
 use Rattle.lab_math.specs.Below.{sum_below, total_below}
 use Rattle.lab_math.proofs.SumLemmas.{total-map}
 use Rattle.lab_math.proofs.NaturalSums.{greatest_over-least}
 use Rattle.lab_math.proofs.Totals.{total_mul, total_add}
 use Rattle.lab_math.proofs.BelowLemmas.{eqb_self, sum_below_term, total_below_cong, total_below_add, total_below_mul}
-use Rattle.lab_math.proofs.Members.{In}
-use Rattle.lab_math.proofs.Integers.{pos-mul, mul_le_z, le_trans_z, le_of_eq_z, mul_add_z}
+use Rattle.lab_math.proofs.Integers.{pos-mul, mul_le_z, le_trans_z, mul_add_z}
 use Rattle.lab_defs_text.specs.Games.{GameModel}
 use Rattle.lab_defs_game.specs.Histories.{History, terminal_histories, payoff}
-use Rattle.lab_defs_game.specs.Sets.{most_decisions, sets}
+use Rattle.lab_defs_game.specs.Sets.{most_decisions}
 use Rattle.lab_defs_game.specs.Chance.{scale}
-use Rattle.lab_defs_game.specs.Forms.{Taken, Row, form_of, row_along, game_actions, path_of}
+use Rattle.lab_defs_game.specs.Forms.{Taken, Row, row_along, game_actions, path_of}
 use Rattle.lab_defs_game.specs.Unfolding.{top_payoff}
 use Rattle.lab_defs_value.specs.Rounding.{share_size}
 use Rattle.lab_defs_value.specs.Expectation.{grid_of}
-use Rattle.lab_defs_value.specs.Parents.{last_step, parent_in, is_step, IsStepBelow}
+use Rattle.lab_defs_value.specs.Parents.{last_step, is_step, IsStepBelow}
 use Rattle.lab_defs_value.specs.Replies.{Strategy, IsTable, strategy_of, other, worth_against, reply_sets}
 use Rattle.lab_defs_value.specs.BestValues.{best_value}
 use Rattle.lab_defs_value.specs.Bounds.{at, through, through_sets, through_rows}
 use Rattle.lab_defs_value.specs.Allowances.{Rule, cfrd, reach, margin, parent, followers, pool_part, pool, shared, allowance, path_sets}
-use Rattle.lab_defs_value.specs.Passes.{limit}
 use Rattle.lab_defs_value.proofs.Pools.{reach_law, parts_sum}
 use Rattle.lab_defs_value.proofs.Parenthood.{parents_below}
 use Rattle.lab_defs_value.proofs.PureReplies.{best_value_law}
@@ -33,7 +31,7 @@ use Rattle.lab_defs_report.specs.States.{tight_bounds}
 use Rattle.lab_defs_report.specs.Headline.{IsAccepted}
 use Rattle.lab_laws.proofs.SessionParts.{IsSeat, sound, reply_count, at_tight, tight_holds}
 use Rattle.lab_laws.proofs.SizeMass.{mass_row, mass_of, parents_same, mass, worth_mass, worth_size, best_size}
-use Rattle.lab_laws.proofs.SizeRanges.{total_up, total_below_term, no_less, cond_up, heights, mass_sound, mass_up, mass_below, root_mass, range_law}
+use Rattle.lab_laws.proofs.SizeRanges.{total_up, total_below_term, cond_up, heights, mass_sound, mass_up, mass_below, root_mass, range_law}
 use Rattle.lab_laws.specs.Sizes.{best_limit, LimitLaw}
 
 -- ---- parts of a pool

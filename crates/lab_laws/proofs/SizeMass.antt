@@ -1,7 +1,7 @@
 -- Masses: the chance of each row by a seat's table, and what replies earn of them.
-use Rattle.std.proofs.Common.{◌≡◌, ℕ, zero, suc, ◌+◌, ◌*◌, ◌-◌, ◌^◌, ◌<◌, ◌≤◌, ℤ, pos, neg_ℤ, ◌+ℤ◌, ◌*ℤ◌, ◌≤ℤ◌, List, [], ◌∷◌, Bool, true, false, cond, eqb, ◌||◌, Option, Some, None, length, map, filter, max, refl, sym, ap, ◌∙◌, subst, arith, inl, inr, ◌⊎◌, mul-le-mul, le_of_eq}
-use Rattle.std.specs.Prelude.{unsigned_abs, slice_index}
-use Rattle.std.specs.List.{All, AllByRecursion}
+use Rattle.std.proofs.Common.{◌≡◌, ℕ, ◌+◌, ◌*◌, ◌-◌, ◌^◌, ◌<◌, ◌≤◌, ℤ, pos, neg_ℤ, ◌*ℤ◌, ◌≤ℤ◌, List, [], ◌∷◌, Bool, true, false, cond, eqb, Option, None, length, map, max, refl, sym, ap, ◌∙◌, subst, arith, mul-le-mul, le_of_eq}
+use Rattle.std.specs.Prelude.{unsigned_abs}
+use Rattle.std.specs.List.{AllByRecursion}
 use Rattle.std.proofs.lemmas.Int.{ints, unsigned_abs-mul}
 use Rattle.std.proofs.lemmas.List.Elements.{recursion_from_All, All-from_recursion}
 use Rattle.lab_math.specs.Sums.{total, sum_over, greatest_over}
@@ -17,7 +17,7 @@ use Rattle.lab_defs_game.specs.Unfolding.{top_payoff}
 use Rattle.lab_defs_value.specs.Tables.{own_weight}
 use Rattle.lab_defs_value.specs.Expectation.{grid_of}
 use Rattle.lab_defs_value.specs.Parents.{passes_through, step_before, parent_in, IsPath, IsForm}
-use Rattle.lab_defs_value.specs.Replies.{Strategy, Reply, IsReply, strategy_of, other, worth_to, worth_against, reply_sets, reply_factors, factors_in, tail, earned}
+use Rattle.lab_defs_value.specs.Replies.{Strategy, Reply, strategy_of, other, worth_to, worth_against, reply_sets, reply_factors, tail, earned}
 use Rattle.lab_defs_value.specs.BestValues.{IsBest, best_value}
 use Rattle.lab_defs_value.proofs.Bests.{one_pow}
 use Rattle.lab_defs_value.proofs.GadgetForms.{path_same}

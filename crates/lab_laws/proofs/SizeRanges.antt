@@ -1,8 +1,8 @@
 -- How large best values are: at most the top payoff times the mass of the whole game.
-use Rattle.std.proofs.Common.{◌≡◌, eqb-true, ℕ, zero, suc, ◌+◌, ◌*◌, ◌-◌, ◌^◌, ◌<◌, ◌≤◌, ℤ, pos, neg_ℤ, ◌+ℤ◌, ◌*ℤ◌, ◌≤ℤ◌, List, [], ◌∷◌, Bool, true, false, cond, eqb, ◌||◌, ◌&&◌, not, Option, Some, None, length, map, filter, max, refl, sym, ap, ◌∙◌, subst, arith, inl, inr, ◌⊎◌, mul-le-mul, le_of_eq, pow-suc}
+use Rattle.std.proofs.Common.{◌≡◌, eqb-true, ℕ, zero, suc, ◌+◌, ◌*◌, ◌-◌, ◌^◌, ◌<◌, ◌≤◌, ℤ, pos, neg_ℤ, ◌+ℤ◌, ◌*ℤ◌, ◌≤ℤ◌, List, [], ◌∷◌, Bool, true, false, cond, eqb, ◌||◌, ◌&&◌, not, Option, Some, None, length, map, max, refl, sym, ap, ◌∙◌, subst, arith, inl, inr, ◌⊎◌, mul-le-mul, pow-suc}
 use native.Mathlib.Nat.{pow-zero}
 use Rattle.std.specs.Prelude.{unsigned_abs, slice_index, nat_le}
-use Rattle.std.specs.List.{All, AllByRecursion, range_with_len}
+use Rattle.std.specs.List.{AllByRecursion}
 use Rattle.std.proofs.lemmas.Int.{ints}
 use Rattle.std.proofs.lemmas.Bool.{cases_eq, both_ways, and_parts, leb-true}
 use Rattle.std.proofs.lemmas.List.Elements.{All-from_recursion}
@@ -10,7 +10,7 @@ use Rattle.lab_math.specs.Sums.{total, sum_over, greatest_over}
 use Rattle.lab_math.specs.Below.{total_below}
 use Rattle.lab_math.proofs.SumLemmas.{total-map}
 use Rattle.lab_math.proofs.NaturalSums.{greatest_over-least}
-use Rattle.lab_math.proofs.BelowLemmas.{eqb_self, eqb_apart}
+use Rattle.lab_math.proofs.BelowLemmas.{eqb_self}
 use Rattle.lab_math.proofs.Members.{In, all_from_in, in_from_filter, in_from_map, in_map}
 use Rattle.lab_math.proofs.Integers.{pos-mul, le_trans_z, le_of_eq_z, cancel_le_z, mul_comm_z}
 use Rattle.lab_math.proofs.Ring.{neg-*ℤ}
@@ -18,29 +18,29 @@ use Rattle.lab_defs_text.specs.Games.{GameModel}
 use Rattle.lab_defs_text.specs.Texts.{game_ok, is_world}
 use Rattle.lab_defs_text.proofs.GameLemmas.{game_fine}
 use Rattle.lab_defs_game.specs.Histories.{History, histories, terminal_histories, is_terminal, place_of}
-use Rattle.lab_defs_game.specs.Sets.{set_number, most_decisions, sets}
+use Rattle.lab_defs_game.specs.Sets.{most_decisions}
 use Rattle.lab_defs_game.specs.Chance.{scale, chance}
-use Rattle.lab_defs_game.specs.Forms.{Taken, Row, Form, form_of, row_along, game_actions, actions_of, path_along, path_of, pad_of, deciding, decides}
+use Rattle.lab_defs_game.specs.Forms.{Taken, Row, Form, row_along, game_actions, path_along, path_of, pad_of, deciding}
 use Rattle.lab_defs_game.specs.Unfolding.{top_payoff}
 use Rattle.lab_defs_game.specs.Laws.{AlikeNames}
 use Rattle.lab_defs_game.proofs.Ways.{root_number}
 use Rattle.lab_defs_game.proofs.RecallLemmas.{recall_law}
 use Rattle.lab_defs_game.proofs.FormLemmas.{deciding_most}
 use Rattle.lab_defs_value.specs.Tables.{own_weight, whole_table}
-use Rattle.lab_defs_value.specs.Expectation.{grid_of, expectation, expectation_units}
+use Rattle.lab_defs_value.specs.Expectation.{grid_of, expectation}
 use Rattle.lab_defs_value.specs.Parents.{passes_through, begins_at, last_step, step_before, parent_in, is_step, IsForm, IsStepBelow}
-use Rattle.lab_defs_value.specs.Replies.{Strategy, Reply, IsReply, IsTable, strategy_of, other, worth_against, reply_sets, reply_factors, factors_in, tail, earned}
+use Rattle.lab_defs_value.specs.Replies.{Strategy, Reply, IsTable, strategy_of, other, worth_against, reply_sets, reply_factors, factors_in, tail, earned}
 use Rattle.lab_defs_value.specs.BestValues.{IsBest, IsChoice, best_value}
-use Rattle.lab_defs_value.specs.Bounds.{through, through_sets, through_rows}
+use Rattle.lab_defs_value.specs.Bounds.{through, through_rows}
 use Rattle.lab_defs_value.specs.Laws.{IsPadded}
-use Rattle.lab_defs_value.specs.WholeLaws.{SumsToGrid, own_of}
+use Rattle.lab_defs_value.specs.WholeLaws.{SumsToGrid}
 use Rattle.lab_defs_value.proofs.Pools.{range_sum}
 use Rattle.lab_defs_value.proofs.Parenthood.{parents_below}
 use Rattle.lab_defs_value.proofs.PureReplies.{best_value_law}
 use Rattle.lab_defs_value.proofs.WholeTables.{whole_is_table_law, best_table_law}
 use Rattle.lab_defs_value.proofs.WholeLaw.{whole_law}
 use Rattle.lab_defs_report.specs.Headline.{IsAccepted}
-use Rattle.lab_laws.proofs.SessionParts.{IsSeat, other_seat, sound, some_set, reply_count}
+use Rattle.lab_laws.proofs.SessionParts.{IsSeat, sound, some_set, reply_count}
 use Rattle.lab_laws.proofs.SizeMass.{mass_row, mass_form, mass_of, mass_is_form, mass, gain, total_pos, worth_mass, mass_earned, best_size}
 use Rattle.lab_laws.specs.Sizes.{RangeLaw}
 
