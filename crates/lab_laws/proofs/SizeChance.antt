@@ -1,18 +1,16 @@
 -- Chances are at most the scale, which is not 0.
-use Rattle.std.proofs.Common.{◌≡◌, ℕ, zero, suc, ◌+◌, ◌*◌, ◌-◌, ◌/◌, ◌<◌, ◌≤◌, List, [], ◌∷◌, Bool, true, false, ◌&&◌, get_or, length, map, flat_map, filter, refl, sym, ap, ◌∙◌, subst, arith, inl, inr, ◌⊎◌, mul-le-mul, le_of_eq}
+use Rattle.std.proofs.Common.{◌≡◌, ℕ, zero, suc, ◌+◌, ◌*◌, ◌-◌, ◌/◌, ◌<◌, ◌≤◌, List, [], ◌∷◌, Bool, true, false, ◌&&◌, get_or, length, flat_map, filter, refl, sym, subst, arith, inl, inr, mul-le-mul, le_of_eq}
 use Rattle.std.specs.Prelude.{nat_le, nat_lt, ◌==◌}
 use Rattle.std.specs.List.{list_all}
 use Rattle.std.proofs.Math.Nat.{mul-div-le}
 use Rattle.std.proofs.lemmas.Bool.{and_parts, both_ways, leb-true}
-use Rattle.std.specs.Int.{◌∣◌}
-use Rattle.lab_math.specs.Sums.{sum_over}
-use Rattle.lab_math.specs.Divisors.{gcd, lcm, lcm_of}
+use Rattle.lab_math.specs.Divisors.{gcd, lcm_of}
 use Rattle.lab_math.proofs.DivisorLemmas.{gcd_is, quotient_pos}
 use Rattle.lab_math.proofs.Members.{In, in_from_filter, in_from_map, in_from_flat_map}
 use Rattle.lab_defs_text.specs.Games.{GameModel, Place, a_world, an_end, Outcome}
-use Rattle.lab_defs_text.specs.Texts.{game_ok, place_at, is_world, place_ok, row_ok, outcome_ok}
+use Rattle.lab_defs_text.specs.Texts.{game_ok, place_at, place_ok, row_ok, outcome_ok}
 use Rattle.lab_defs_text.proofs.GameLemmas.{world_fine}
-use Rattle.lab_defs_game.specs.Histories.{History, Step, row_of, outcome_of, place_of, reached, histories, inner_histories}
+use Rattle.lab_defs_game.specs.Histories.{History, row_of, outcome_of, place_of, reached, inner_histories}
 use Rattle.lab_defs_game.specs.Chance.{row_total, totals_at, chance_unit, units_from, chance_from, chance, scale}
 use Rattle.lab_defs_game.proofs.RecallLemmas.{inner_world}
 use Rattle.lab_defs_game.proofs.FormLemmas.{world_ok}
@@ -68,7 +66,7 @@ some_total g (o ∷ os) e =
     omega (arith, w)
 
 -- what holds of all by a test holds of each
-tested : {X : Type 0} (p : X → Bool) (xs : List X) (x : X) → list_all p xs ≡ true → In x xs → p x ≡ true
+pub tested : {X : Type 0} (p : X → Bool) (xs : List X) (x : X) → list_all p xs ≡ true → In x xs → p x ≡ true
 tested p [] x e i = absurd i
 tested p (y ∷ xs) x e (inl q) = subst (λ z. p z ≡ true) q (and_parts (p y) (list_all p xs) e).0
 tested p (y ∷ xs) x e (inr i) = tested p xs x (and_parts (p y) (list_all p xs) e).1 i

@@ -1,29 +1,38 @@
--- How many rows there are.
-use Rattle.std.proofs.Common.{◌≡◌, ℕ, zero, suc, ◌+◌, ◌^◌, ◌<◌, ◌≤◌, List, [], ◌∷◌, ◌++◌, Bool, true, false, cond, ◌&&◌, length, map, filter, refl, sym, ap, ◌∙◌, subst, arith, inl, inr, ◌⊎◌, length-append}
-use Rattle.std.specs.List.{All, range_with_len}
+-- How many rows there are, and how many actions at each set.
+use Rattle.std.proofs.Common.{◌≡◌, ℕ, suc, ◌+◌, ◌*◌, ◌-◌, ◌^◌, ◌<◌, ◌≤◌, List, [], ◌∷◌, ◌++◌, Bool, true, false, cond, eqb, ◌&&◌, length, map, flat_map, filter, drop, refl, sym, ap, ◌∙◌, subst, arith, inl, inr, length-append, mul-le-mul, le_of_eq}
+use Rattle.std.specs.Prelude.{nat_lt}
+use Rattle.std.specs.Ordering.{is_eq}
+use Rattle.std.specs.List.{All, list_all, range_with_len}
+use Rattle.std.proofs.lemmas.Bool.{and_parts, ltb-true}
 use Rattle.std.proofs.lemmas.List.{length-map}
-use Rattle.std.proofs.lemmas.List.FromFn.{length-range_with_len}
-use Rattle.lab_defs_text.specs.Games.{GameModel}
-use Rattle.lab_defs_game.specs.Histories.{histories, inner_histories, terminal_histories, is_terminal, place_of}
-use Rattle.lab_defs_text.specs.Texts.{is_world}
-use Rattle.lab_defs_game.specs.Sets.{seen, sets, set_cmp, public_list, most_decisions}
+use Rattle.std.proofs.lemmas.List.Elements.{All-from_recursion, All-append, All-replicate, All-take, All-drop}
+use Rattle.std.proofs.lemmas.List.FromFn.{length-range_with_len, length-map-range_with_len}
+use Rattle.lab_math.proofs.Members.{In, in_get_or, in_range, in_from_range, in_from_map, all_from_in}
+use Rattle.lab_defs_text.specs.Games.{GameModel, Place, a_world, an_end, World}
+use Rattle.lab_defs_text.specs.Texts.{is_world, place_ok, row_ok, outcome_ok}
+use Rattle.lab_defs_text.proofs.GameLemmas.{world_fine}
+use Rattle.lab_defs_game.specs.Histories.{History, Step, actions_at, row_of, steps_of, reached, longer, with_longer, histories, inner_histories, terminal_histories, is_terminal, place_of}
+use Rattle.lab_defs_game.specs.Sets.{Item, seen, sets, set_cmp, set_actions, first_actions, public_list, most_decisions}
 use Rattle.lab_defs_game.specs.Nodes.{begins}
-use Rattle.lab_defs_game.specs.Forms.{Row, Form, form_of, row_along, game_actions, path_of}
+use Rattle.lab_defs_game.specs.Forms.{Form, form_of, row_along, game_actions}
 use Rattle.lab_defs_game.proofs.KeyLemmas.{length_merged}
-use Rattle.lab_defs_game.proofs.HistoryCounts.{history_count_law}
+use Rattle.lab_defs_game.proofs.HistoryCounts.{level, with_longer_level, history_count_law}
+use Rattle.lab_defs_game.proofs.Legal.{step_at, history_legal}
+use Rattle.lab_defs_game.proofs.RecallLemmas.{not_both, inner_world}
+use Rattle.lab_defs_game.proofs.FormLemmas.{in_level, ends_within, world_ok, some_action}
 use Rattle.lab_defs_game.proofs.UnfoldLaws.{accepted_law}
 use Rattle.lab_defs_value.specs.Expectation.{grid_of}
-use Rattle.lab_defs_value.specs.Replies.{IsTable, other}
-use Rattle.lab_defs_value.specs.Allowances.{Rule, public_of, node_sets}
-use Rattle.lab_defs_value.specs.Subgames.{subgame_row, part_at, subgame_ends, subgame_form}
-use Rattle.lab_defs_value.specs.Gadgets.{node_limit, gadget_form}
+use Rattle.lab_defs_value.specs.Replies.{other}
+use Rattle.lab_defs_value.specs.Allowances.{Rule, cfrd, reach, margin, public_of, node_sets}
+use Rattle.lab_defs_value.specs.Subgames.{span_at, span_actions, subgame_row, part_at, subgame_ends, subgame_form}
+use Rattle.lab_defs_value.specs.Gadgets.{further_sets, with_further, node_limit}
 use Rattle.lab_defs_value.proofs.GadgetSets.{gadget_law}
 use Rattle.lab_defs_report.specs.States.{tight_bounds}
 use Rattle.lab_defs_report.specs.Headline.{IsAccepted}
-use Rattle.lab_laws.proofs.SessionParts.{IsSeat}
+use Rattle.lab_laws.proofs.SizeChance.{tested}
 use Rattle.lab_laws.proofs.SizeRanges.{some_grid}
 use Rattle.lab_laws.proofs.SizeGadgets.{grid_most, row_law}
-use Rattle.lab_laws.specs.Sizes.{row_size, HasRows, IsSmall, SmallLaw}
+use Rattle.lab_laws.specs.Sizes.{HasRows, SmallLaw}
 
 -- what passes a test is no more
 filter_long : {X : Type 0} (p : X → Bool) (xs : List X) → length (filter p xs) ≤ length xs
@@ -72,6 +81,123 @@ module _ (g : GameModel) (ok : IsAccepted g) where
 rows_below : (grid1 grid2 : ℕ) (f : Form) (m n : ℕ) → m ≤ n → HasRows grid1 grid2 f m → HasRows grid1 grid2 f n
 rows_below grid1 grid2 f m n le h k d l = let r = h k d l in omega (arith, r, le)
 
+-- ---- actions
+
+-- each list among some is no longer than all together
+flat_some : {X Y : Type 0} (f : X → List Y) (xs : List X) (x : X) → In x xs → length (f x) ≤ length (flat_map f xs)
+flat_some f [] x i = absurd i
+flat_some f (y ∷ xs) x (inl e) = let l = length-append (f y) (flat_map f xs) in let same = ap (λ z. length (f z)) e in omega (arith, l, same)
+flat_some f (y ∷ xs) x (inr i) = let l = length-append (f y) (flat_map f xs) in let rest = flat_some f xs x i in omega (arith, l, rest)
+
+-- lists that are not empty are together at least as long as they are many
+flat_many : {X Y : Type 0} (f : X → List Y) (xs : List X) → ((x : X) → In x xs → 1 ≤ length (f x)) → length xs ≤ length (flat_map f xs)
+flat_many f [] some = omega arith
+flat_many f (x ∷ xs) some = let l = length-append (f x) (flat_map f xs) in let one = some x (inl refl) in let rest = flat_many f xs (λ y i. some y (inr i)) in omega (arith, l, one, rest)
+
+-- the row of a joint action of a world that passes has an outcome
+row_some : (g : GameModel) (w : World) → place_ok g (a_world w) ≡ true → (a b : ℕ) → a < length w.one → b < length w.two → 1 ≤ length (row_of (a_world w) a b)
+row_some g w ok a b la lb =
+    let fine = world_fine g w ok in
+    let l : suc a * length w.two ≤ length w.one * length w.two = mul-le-mul la (le_of_eq refl) in
+    let e : suc a * length w.two ≡ a * length w.two + length w.two = omega arith in
+    let there = in_get_or w.rows (a * length w.two + b) [] (omega (arith, l, e, lb, fine.count)) in
+    let row = row_of (a_world w) a b in
+    let some = ltb-true 0 (length row) (and_parts (nat_lt 0 (length row)) (list_all (outcome_ok g) row) (tested (row_ok g) w.rows row fine.rows there)).0 in
+    omega (arith, some)
+
+-- at least as many steps lead out of a world as a seat has actions there
+steps_many : (g : GameModel) (seat : ℕ) (p : Place) → place_ok g p ≡ true → is_world p ≡ true → actions_at seat p ≤ length (steps_of p)
+steps_many g seat (an_end z) ok world = absurd cc
+steps_many g seat (a_world w) ok world = at (eqb seat 1)
+  where
+    -- the steps by both seats' actions
+    both : ℕ → ℕ → List Step
+    both a b = map (step_at a b) (range_with_len 0 (length (row_of (a_world w) a b)))
+
+    by : ℕ → List Step
+    by a = flat_map (both a) (range_with_len 0 (length w.two))
+
+    both_long : (a b : ℕ) → In a (range_with_len 0 (length w.one)) → In b (range_with_len 0 (length w.two)) → 1 ≤ length (both a b)
+    both_long a b i j =
+        let l = length-map-range_with_len (step_at a b) 0 (length (row_of (a_world w) a b)) in
+        let ia = in_from_range a 0 (length w.one) i in
+        let jb = in_from_range b 0 (length w.two) j in
+        let some = row_some g w ok a b (omega (arith, ia.1)) (omega (arith, jb.1)) in
+        omega (arith, l, some)
+
+    by_long : (a : ℕ) → In a (range_with_len 0 (length w.one)) → length w.two ≤ length (by a)
+    by_long a i = let m = flat_many (both a) (range_with_len 0 (length w.two)) (λ b j. both_long a b i j) in omega (arith, m, length-range_with_len 0 (length w.two))
+
+    one_first : In 0 (range_with_len 0 (length w.one))
+    one_first = let l = some_action g 1 (a_world w) ok world in in_range 0 0 (length w.one) (omega arith) (omega (arith, l))
+
+    two_some : 1 ≤ length w.two
+    two_some = let l = some_action g 2 (a_world w) ok world in omega (arith, l)
+
+    at : (b : Bool) → cond b (length w.one) (length w.two) ≤ length (flat_map by (range_with_len 0 (length w.one)))
+    at true = let m = flat_many by (range_with_len 0 (length w.one)) (λ a i. omega (arith, by_long a i, two_some)) in omega (arith, m, length-range_with_len 0 (length w.one))
+    at false = let m = flat_some by (range_with_len 0 (length w.one)) 0 one_first in omega (arith, m, by_long 0 one_first)
+
+module _ (g : GameModel) (ok : IsAccepted g) where
+  -- a seat has at most 2^16 actions at a history that is not terminal
+  few_actions_at : (seat : ℕ) (h : History) → In h (inner_histories g) → actions_at seat (place_of g h) ≤ 65536
+  few_actions_at seat h i =
+      let inner = inner_world g h i in
+      let there = inner.0 in
+      let t = length h in
+      let within = (history_legal g h there).1 in
+      let short : t < g.horizon = before_end t g.horizon within (λ e. not_both inner.1 (ends_within g ok.unfolds h there e)) in
+      let more = flat_some (longer g) (level g t) h (in_level g t h there refl) in
+      let steps = length-map (steps_of (place_of g h)) (λ s. h ++ s ∷ []) in
+      let whole = ap length (with_longer_level g t) ∙ length-append (with_longer g t ([] ∷ [])) (level g (suc t)) in
+      let count = history_count_law g (suc t) in
+      let few = ((accepted_law g).0 ok.unfolds).0 (suc t) (omega (arith, short)) in
+      let many = steps_many g seat (place_of g h) (world_ok g (reached g g.root h) ok.good inner.1) inner.1 in
+      omega (arith, more, steps, whole, count, few, many)
+    where
+      before_end : (t n : ℕ) → t ≤ n → (t ≡ n → ⊥) → t < n
+      before_end t n l ne = omega (arith, l, ne)
+
+  -- so at a set
+  few_set_actions : (seat : ℕ) (s : List Item) → set_actions g seat s ≤ 65536
+  few_set_actions seat s = over (inner_histories g) (λ h i. few_actions_at seat h i)
+    where
+      over : (hs : List History) → ((h : History) → In h hs → actions_at seat (place_of g h) ≤ 65536) → first_actions g seat s hs ≤ 65536
+      over [] all = omega arith
+      over (h ∷ hs) all = at (is_eq (set_cmp (seen g seat h) s)) (over hs (λ k i. all k (inr i)))
+        where
+          at : (b : Bool) → first_actions g seat s hs ≤ 65536 → cond b (actions_at seat (place_of g h)) (first_actions g seat s hs) ≤ 65536
+          at true rest = all h (inl refl)
+          at false rest = rest
+
+  -- at all sets of the game
+  few_actions : (seat : ℕ) → All (λ n. n ≤ 65536) (game_actions g seat)
+  few_actions seat =
+      All-from_recursion (λ n. n ≤ 65536) (game_actions g seat) (all_from_in (λ n. n ≤ 65536) (game_actions g seat) (λ n i.
+      let r = in_from_map (set_actions g seat) (sets g seat) n i in subst (λ k. k ≤ 65536) r.2 (few_set_actions seat r.0)))
+
+  -- at those of a subgame
+  few_span_actions : (seat : ℕ) (node : List ℕ) → All (λ n. n ≤ 65536) (span_actions (span_at g seat node))
+  few_span_actions seat node =
+      let s = span_at g seat node in
+      All-take (λ n. n ≤ 65536) (s.end - s.start) (drop s.start (game_actions g seat)) (All-drop (λ n. n ≤ 65536) s.start (game_actions g seat) (few_actions seat))
+
+  -- and at the further ones of a gadget
+  few_further : (rule : Rule) (roots : ℕ) → roots ≤ 65536 → All (λ n. n ≤ 65536) (further_sets rule roots)
+  few_further cfrd roots l = All-replicate (λ n. n ≤ 65536) roots 2 (omega arith)
+  few_further reach roots l = All-replicate (λ n. n ≤ 65536) roots 2 (omega arith)
+  few_further margin roots l = All-from_recursion (λ n. n ≤ 65536) (roots ∷ []) (l, tt)
+
+  few_gadget_actions : (rule : Rule) (keeper seat : ℕ) (node ns : List ℕ) → All (λ n. n ≤ 65536) ns → All (λ n. n ≤ 65536) (with_further (further_sets rule (length (node_sets g (other keeper) node))) (other keeper) seat ns)
+  few_gadget_actions rule keeper seat node ns h = at (eqb (other keeper) seat)
+    where
+      further : List ℕ
+      further = further_sets rule (length (node_sets g (other keeper) node))
+
+      at : (b : Bool) → All (λ n. n ≤ 65536) (cond b (further ++ ns) ns)
+      at true = All-append (λ n. n ≤ 65536) further ns (few_further rule (length (node_sets g (other keeper) node)) (few_roots g ok (other keeper) node)) h
+      at false = h
+
 -- the law of small forms
 pub small_law : SmallLaw
 small_law g ok =
@@ -80,6 +206,7 @@ small_law g ok =
         grids = grids_small g ok;
         few = (let long = length-map (terminal_histories g) (row_along g) in omega (arith, long, few_ends g ok));
         rows = rows_below (grid_of g 1) (grid_of g 2) (form_of g) (2 ^ 64) (2 ^ 77) (omega arith) r.0;
+        actions = (few_actions g ok 1, few_actions g ok 2);
       },
       λ keeper is node table tab.
           let q = r.1 keeper is node table tab in (
@@ -87,12 +214,14 @@ small_law g ok =
               grids = grids_small g ok;
               few = (let le = few_inside g ok keeper node table in omega (arith, le));
               rows = rows_below (grid_of g 1) (grid_of g 2) (subgame_form g keeper node table) (2 ^ 64) (2 ^ 77) (omega arith) q.0;
+              actions = (few_span_actions g ok 1 node, few_span_actions g ok 2 node);
             },
             λ rule. record {
               grids = grids_small g ok;
               few = (let long = (gadget_law rule keeper (length (node_sets g (other keeper) node)) (most_decisions g (other keeper)) (node_limit g rule keeper node table (tight_bounds g keeper table)) (subgame_form g keeper node table)).4 in
                   let le = few_inside g ok keeper node table in let roots = few_roots g ok (other keeper) node in omega (arith, long, le, roots));
               rows = q.1 rule;
+              actions = (few_gadget_actions g ok rule keeper 1 node (span_actions (span_at g 1 node)) (few_span_actions g ok 1 node), few_gadget_actions g ok rule keeper 2 node (span_actions (span_at g 2 node)) (few_span_actions g ok 2 node));
             },
           ),
     )

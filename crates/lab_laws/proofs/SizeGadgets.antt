@@ -1,27 +1,25 @@
 -- How much a row of a gadget comes to.
-use Rattle.std.proofs.Common.{◌≡◌, ℕ, zero, suc, ◌+◌, ◌*◌, ◌-◌, ◌^◌, ◌<◌, ◌≤◌, ℤ, pos, neg_ℤ, ◌*ℤ◌, ◌≤ℤ◌, List, [], ◌∷◌, ◌++◌, Bool, true, false, cond, eqb, ◌&&◌, length, map, get_or, max, refl, sym, ap, ◌∙◌, subst, arith, inl, inr, ◌⊎◌, mul-le-mul, le_of_eq}
+use Rattle.std.proofs.Common.{◌≡◌, ℕ, suc, ◌+◌, ◌*◌, ◌^◌, ◌<◌, ◌≤◌, ℤ, pos, neg_ℤ, ◌≤ℤ◌, List, [], ◌∷◌, ◌++◌, Bool, true, false, cond, eqb, length, map, max, refl, sym, ap, ◌∙◌, subst, arith, inl, inr, mul-le-mul, le_of_eq}
 use native.Mathlib.Nat.{pow-zero, pow-succ'}
 use Rattle.std.proofs.Math.Nat.{pow-le-pow_right}
 use Rattle.std.specs.Prelude.{unsigned_abs, slice_index, nat_le}
-use Rattle.std.specs.List.{All, AllByRecursion, range_with_len}
+use Rattle.std.specs.List.{range_with_len}
 use Rattle.std.proofs.lemmas.Int.{ints}
 use Rattle.std.proofs.lemmas.Bool.{and_parts, leb-true}
 use Rattle.std.proofs.lemmas.List.{get_or-append-add}
 use Rattle.std.proofs.lemmas.List.Elements.{recursion_from_All, All-from_recursion}
 use Rattle.lab_math.proofs.Elements.{all_map}
-use Rattle.lab_math.proofs.Members.{In, in_get_or}
+use Rattle.lab_math.proofs.Members.{in_get_or}
 use Rattle.lab_defs_text.specs.Games.{GameModel}
 use Rattle.lab_defs_text.specs.Texts.{game_ok}
 use Rattle.lab_defs_text.proofs.GameLemmas.{game_fine}
 use Rattle.lab_defs_game.specs.Sets.{most_decisions}
 use Rattle.lab_defs_game.specs.Chance.{scale}
-use Rattle.lab_defs_game.specs.Forms.{Taken, Row, Form, game_actions, actions_of, path_of, pad_of, decides, deciding}
+use Rattle.lab_defs_game.specs.Forms.{Taken, Row, Form, game_actions, path_of, decides, deciding}
 use Rattle.lab_defs_game.specs.Unfolding.{top_payoff}
 use Rattle.lab_defs_value.specs.Expectation.{grid_of}
-use Rattle.lab_defs_value.specs.Replies.{IsTable, strategy_of, other, worth_to}
-use Rattle.lab_defs_value.specs.Bounds.{at}
-use Rattle.lab_defs_value.specs.Allowances.{Rule, cfrd, reach, margin, allowance, path_sets, node_sets}
-use Rattle.lab_defs_value.specs.Passes.{limit}
+use Rattle.lab_defs_value.specs.Replies.{IsTable, other, worth_to}
+use Rattle.lab_defs_value.specs.Allowances.{Rule, cfrd, reach, margin, node_sets}
 use Rattle.lab_defs_value.specs.Subgames.{subgame_form}
 use Rattle.lab_defs_value.specs.Gadgets.{further_sets, entry, ending, ending_worth, entered, with_path, ending_row, node_limit, gadget_form}
 use Rattle.lab_defs_value.proofs.Entries.{raised}

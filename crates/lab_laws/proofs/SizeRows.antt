@@ -1,33 +1,28 @@
 -- How much a row of a game, of a subgame and of a gadget comes to.
-use Rattle.std.proofs.Common.{◌≡◌, ℕ, zero, suc, ◌+◌, ◌*◌, ◌-◌, ◌^◌, ◌<◌, ◌≤◌, ℤ, pos, neg_ℤ, ◌*ℤ◌, ◌≤ℤ◌, List, [], ◌∷◌, ◌++◌, Bool, true, false, cond, eqb, ◌&&◌, not, Some, None, length, map, filter, get_or, max, refl, sym, ap, ◌∙◌, subst, arith, inl, inr, ◌⊎◌, mul-le-mul, le_of_eq, pow-suc, pow-add, one-add, zero-add}
-use native.Mathlib.Nat.{pow-zero, pow-succ'}
-use Rattle.std.specs.Prelude.{unsigned_abs, slice_index, nat_le, nat_lt}
-use Rattle.std.specs.List.{All, AllByRecursion, range_with_len}
-use Rattle.std.proofs.lemmas.Int.{ints, unsigned_abs-mul}
+use Rattle.std.proofs.Common.{◌≡◌, ℕ, ◌+◌, ◌*◌, ◌-◌, ◌^◌, ◌<◌, ◌≤◌, ℤ, pos, ◌*ℤ◌, List, [], ◌∷◌, Bool, true, false, cond, not, None, map, max, refl, sym, ap, ◌∙◌, subst, arith, inl, inr, mul-le-mul, le_of_eq, pow-add}
+use Rattle.std.specs.Prelude.{unsigned_abs, nat_le, nat_lt}
+use Rattle.std.proofs.lemmas.Int.{unsigned_abs-mul}
 use Rattle.std.proofs.lemmas.Bool.{and_parts, leb-true, ltb-true}
 use Rattle.std.proofs.lemmas.List.Elements.{recursion_from_All, All-from_recursion}
 use Rattle.lab_math.specs.Sums.{product_over}
 use Rattle.lab_math.proofs.NaturalSums.{greatest_over-least}
-use Rattle.lab_math.proofs.BelowLemmas.{sum_below_term}
 use Rattle.lab_math.proofs.Members.{In, all_in, all_from_in, in_from_filter, in_from_map, in_map}
 use Rattle.lab_defs_text.specs.Games.{GameModel}
-use Rattle.lab_defs_text.specs.Texts.{game_ok}
-use Rattle.lab_defs_text.proofs.GameLemmas.{game_fine}
 use Rattle.lab_defs_game.specs.Histories.{History, histories, terminal_histories, is_terminal, payoff}
 use Rattle.lab_defs_game.specs.Sets.{most_decisions, public_list}
 use Rattle.lab_defs_game.specs.Chance.{scale, chance}
 use Rattle.lab_defs_game.specs.Nodes.{begins}
-use Rattle.lab_defs_game.specs.Forms.{Taken, Row, Form, form_of, row_along, game_actions, actions_of, path_along, path_of, pad_of, decides, deciding}
+use Rattle.lab_defs_game.specs.Forms.{Taken, Row, form_of, row_along, game_actions, path_along, decides, deciding}
 use Rattle.lab_defs_game.specs.Unfolding.{top_payoff, size}
 use Rattle.lab_defs_game.proofs.Legal.{history_legal}
 use Rattle.lab_defs_game.proofs.UnfoldLaws.{accepted_law}
 use Rattle.lab_defs_game.proofs.RecallLemmas.{recall_law}
-use Rattle.lab_defs_value.specs.Tables.{first_weight, factor}
+use Rattle.lab_defs_value.specs.Tables.{factor}
 use Rattle.lab_defs_value.specs.Expectation.{grid_of}
-use Rattle.lab_defs_value.specs.Parents.{parent_in, IsStepBelow, IsPath, IsForm}
-use Rattle.lab_defs_value.specs.Replies.{IsTable, other}
-use Rattle.lab_defs_value.specs.Subgames.{Span, is_inside, inside, before, renumbered, span_actions, span_at, Part, part_at, weight_before, subgame_row, subgame_ends, subgame_form}
-use Rattle.lab_defs_value.proofs.Sizing.{Steps, steps_of}
+use Rattle.lab_defs_value.specs.Parents.{parent_in, IsPath}
+use Rattle.lab_defs_value.specs.Replies.{IsTable, reply_by}
+use Rattle.lab_defs_value.specs.Subgames.{Span, is_inside, inside, before, renumbered, span_actions, span_at, part_at, weight_before, subgame_row, subgame_ends, subgame_form}
+use Rattle.lab_defs_value.proofs.Sizing.{Steps, steps_of, product_le}
 use Rattle.lab_defs_value.proofs.SubgameRows.{set_inside}
 use Rattle.lab_defs_report.specs.Headline.{IsAccepted}
 use Rattle.lab_laws.proofs.SessionParts.{IsSeat, sound}
@@ -130,23 +125,18 @@ deciding_parts s (t ∷ ts) = at (is_inside s t) (deciding_parts s ts)
     at true rest = omega (arith, rest)
     at false rest = omega (arith, rest)
 
+-- the steps before a node are there
+steps_before : (s : Span) (path : List Taken) → Steps s.actions path → Steps s.actions (before s path)
+steps_before s [] h = tt
+steps_before s (t ∷ ts) h = at (is_inside s t) (steps_before s ts h.1)
+  where
+    at : (b : Bool) → Steps s.actions (before s ts) → Steps s.actions (cond (not b) (t ∷ before s ts) (before s ts))
+    at true rest = rest
+    at false rest = (h.0, rest)
+
 -- the weights before a node are at most the grid for each decision there
 before_most : (s : Span) (grid : ℕ) (table : List ℕ) → IsTable s.actions grid table → (path : List Taken) → Steps s.actions path → product_over (factor s.actions table) (before s path) ≤ grid ^ deciding s.actions (before s path)
-before_most s grid table is [] h = le_of_eq (sym (pow-zero grid))
-before_most s grid table is (t ∷ ts) h = at (is_inside s t) (before_most s grid table is ts h.1)
-  where
-    at : (b : Bool) → product_over (factor s.actions table) (before s ts) ≤ grid ^ deciding s.actions (before s ts)
-        → product_over (factor s.actions table) (cond (not b) (t ∷ before s ts) (before s ts)) ≤ grid ^ deciding s.actions (cond (not b) (t ∷ before s ts) (before s ts))
-    at true rest = rest
-    at false rest = by (decides s.actions t.set) refl
-      where
-        by : (c : Bool) → decides s.actions t.set ≡ c
-            → cond c (slice_index table (first_weight s.actions t.set + t.action)) 1 * product_over (factor s.actions table) (before s ts) ≤ grid ^ (cond c 1 0 + deciding s.actions (before s ts))
-        by true e =
-            let small = sum_below_term (slice_index s.actions t.set) t.action (λ a. slice_index table (first_weight s.actions t.set + a)) h.0.1 in
-            let here : slice_index table (first_weight s.actions t.set + t.action) ≤ grid = omega (arith, small, is.1 t.set h.0.0 e) in
-            rw one-add (subst (λ x. slice_index table (first_weight s.actions t.set + t.action) * product_over (factor s.actions table) (before s ts) ≤ x) (sym (pow-succ' grid (deciding s.actions (before s ts)))) (mul-le-mul here rest))
-        by false e = rw zero-add (omega (arith, rest))
+before_most s grid table is path h = product_le s.actions (reply_by grid s.actions table) is (before s path) (steps_before s path h)
 
 module _ (g : GameModel) (ok : IsAccepted g) (node table : List ℕ) where
   -- the steps of a seat along a terminal history are there

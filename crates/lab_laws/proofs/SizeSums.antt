@@ -1,5 +1,5 @@
 -- How large expectations and values are in a small form.
-use Rattle.std.proofs.Common.{◌≡◌, ℕ, zero, suc, ◌+◌, ◌*◌, ◌-◌, ◌^◌, ◌<◌, ◌≤◌, ℤ, pos, neg_ℤ, ◌*ℤ◌, List, [], ◌∷◌, Bool, true, false, cond, eqb, ◌||◌, length, drop, filter, get_or, max, refl, sym, ap, ◌∙◌, subst, arith, inl, inr, ◌⊎◌, mul-le-mul, le_of_eq, pow-add, pow-suc, eqb-true}
+use Rattle.std.proofs.Common.{◌≡◌, ℕ, suc, ◌+◌, ◌*◌, ◌^◌, ◌<◌, ◌≤◌, ℤ, pos, ◌*ℤ◌, List, [], ◌∷◌, Bool, true, false, cond, eqb, ◌||◌, length, drop, get_or, max, refl, sym, ap, ◌∙◌, subst, arith, inl, inr, mul-le-mul, le_of_eq, pow-add, pow-suc, eqb-true}
 use native.Mathlib.Nat.{pow-succ'}
 use Rattle.std.proofs.Math.Nat.{pow-le-pow_right}
 use Rattle.std.specs.Prelude.{unsigned_abs, slice_index}
@@ -7,13 +7,13 @@ use Rattle.std.specs.List.{All, AllByRecursion}
 use Rattle.std.proofs.lemmas.Int.{unsigned_abs-mul}
 use Rattle.std.proofs.lemmas.Bool.{both_ways}
 use Rattle.std.proofs.lemmas.List.Elements.{recursion_from_All}
-use Rattle.lab_math.specs.Sums.{total, sum_over, product_over}
+use Rattle.lab_math.specs.Sums.{total, sum_over}
 use Rattle.lab_math.proofs.BelowLemmas.{sum_below_term}
 use Rattle.lab_math.proofs.Totals.{total_filter, total_size}
-use Rattle.lab_defs_game.specs.Forms.{Taken, Row, Form, actions_of, path_of, pad_of, decides, deciding}
-use Rattle.lab_defs_value.specs.Tables.{first_weight, factor, own_weight}
+use Rattle.lab_defs_game.specs.Forms.{Taken, Row, path_of, pad_of, decides, deciding}
+use Rattle.lab_defs_value.specs.Tables.{own_weight}
 use Rattle.lab_defs_value.specs.Expectation.{expectation}
-use Rattle.lab_defs_value.specs.Parents.{passes_through, path_from, parent_in, IsStepBelow}
+use Rattle.lab_defs_value.specs.Parents.{passes_through, path_from, parent_in}
 use Rattle.lab_defs_value.specs.Replies.{IsTable, other, reply_by, worth_to}
 use Rattle.lab_defs_value.specs.Matching.{Pair, grid_in, table_in, sets_in, weight_in, weight_along, worth_in, path_before, path_behind, takes, grid_before, action_value, set_value, reach_in}
 use Rattle.lab_defs_value.proofs.Sizing.{Steps, steps_of, steps_from, product_le, size_law}
@@ -22,7 +22,7 @@ use Rattle.lab_defs_value.proofs.Earnings.{deciding_splits}
 use Rattle.lab_laws.proofs.SessionParts.{IsSeat, other_seat}
 use Rattle.lab_laws.proofs.SizeMass.{turned_size}
 use Rattle.lab_laws.proofs.SizeRanges.{some_power}
-use Rattle.lab_laws.specs.Sizes.{factors_at, row_size, HasRows, IsSmall, IsSmallPair, worths_to, SumLaw}
+use Rattle.lab_laws.specs.Sizes.{factors_at, IsSmallPair, worths_to, SumLaw}
 
 -- ---- parts of a path
 

@@ -1,15 +1,14 @@
 -- How large regrets and sums of weights are in a small form, round by round.
-use Rattle.std.proofs.Common.{◌≡◌, ℕ, zero, suc, ◌+◌, ◌*◌, ◌-◌, ◌^◌, ◌<◌, ◌≤◌, ℤ, pos, ◌+ℤ◌, ◌-ℤ◌, List, [], ◌∷◌, Bool, true, false, cond, length, replicate, refl, sym, ap, ◌∙◌, subst, arith, inl, inr, ◌⊎◌}
+use Rattle.std.proofs.Common.{◌≡◌, ℕ, zero, suc, ◌+◌, ◌*◌, ◌^◌, ◌≤◌, ℤ, pos, ◌+ℤ◌, ◌-ℤ◌, List, [], ◌∷◌, Bool, true, false, cond, length, replicate, refl, sym, subst, arith, inl, inr}
 use Rattle.std.specs.Prelude.{unsigned_abs, slice_index}
-use Rattle.std.specs.List.{All, AllByRecursion, range_with_len}
+use Rattle.std.specs.List.{All, AllByRecursion}
 use Rattle.std.proofs.lemmas.Int.{ints}
 use Rattle.std.proofs.lemmas.List.Elements.{All-from_recursion}
 use Rattle.lab_math.proofs.Elements.{all_flat, all_imp}
 use Rattle.lab_defs_game.specs.Forms.{Form, decides}
 use Rattle.lab_defs_value.specs.Tables.{first_weight}
 use Rattle.lab_defs_value.specs.Parents.{IsForm}
-use Rattle.lab_defs_value.specs.Replies.{IsTable}
-use Rattle.lab_defs_value.specs.Matching.{Pair, sets_in, weight_in, action_value, set_value, regrets_at, reach_in, reached_at, at_deciding, added, zeros, Tally, regrets_of, sums_of, pair_of, tally_after}
+use Rattle.lab_defs_value.specs.Matching.{Pair, sets_in, weight_in, action_value, set_value, regrets_at, reach_in, reached_at, at_deciding, added, Tally, regrets_of, sums_of, pair_of, tally_after}
 use Rattle.lab_defs_value.proofs.GadgetForms.{all_images}
 use Rattle.lab_defs_value.proofs.RoundedTables.{rounded_table_law}
 use Rattle.lab_defs_value.proofs.Rounds.{tally_law}

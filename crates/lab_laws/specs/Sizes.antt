@@ -1,5 +1,5 @@
 -- How large the numbers of a session are.
-use Rattle.std.specs.Prelude.{◌≡◌, ◌⊎◌, All, ℕ, ◌+◌, ◌*◌, ◌^◌, ◌<◌, ◌≤◌, max, unsigned_abs, true, slice_index, ℤ, pos, neg_ℤ, ◌≤ℤ◌, List, length}
+use Rattle.std.specs.Prelude.{◌≡◌, ◌⊎◌, All, ℕ, ◌+◌, ◌*◌, ◌^◌, ◌<◌, ◌≤◌, max, unsigned_abs, true, slice_index, pos, neg_ℤ, ◌≤ℤ◌, List, length}
 use Rattle.lab_defs_text.specs.Games.{GameModel}
 use Rattle.lab_defs_game.specs.Sets.{sets, most_decisions}
 use Rattle.lab_defs_game.specs.Chance.{scale}
@@ -8,7 +8,7 @@ use Rattle.lab_defs_game.specs.Unfolding.{top_payoff}
 use Rattle.lab_defs_value.specs.Expectation.{grid_of, expectation}
 use Rattle.lab_defs_value.specs.Parents.{IsForm}
 use Rattle.lab_defs_value.specs.Laws.{worth_sizes}
-use Rattle.lab_defs_value.specs.Matching.{Pair, grid_in, table_in, sets_in, weight_in, worth_in, action_value, set_value, reach_in, Tally, regrets_of, sums_of, tally_after}
+use Rattle.lab_defs_value.specs.Matching.{Pair, grid_in, table_in, sets_in, weight_in, action_value, set_value, reach_in, regrets_of, sums_of, tally_after}
 use Rattle.lab_defs_value.specs.Replies.{IsTable, strategy_of, other}
 use Rattle.lab_defs_value.specs.BestValues.{best_value}
 use Rattle.lab_defs_value.specs.Bounds.{at}
@@ -56,11 +56,12 @@ RowLaw = (g : GameModel) → IsAccepted g →
     → HasRows (grid_of g 1) (grid_of g 2) (subgame_form g keeper node table) (2 ^ 64)
     × ((rule : Rule) → HasRows (grid_of g 1) (grid_of g 2) (gadget_form g rule keeper node table (tight_bounds g keeper table)) (2 ^ 77)))
 
--- a form is small: grids from 1 up to 2^12, at most 2^17 rows, and none that comes to more than 2^77
+-- a form is small: grids from 1 up to 2^12, at most 2^17 rows, none that comes to more than 2^77, and at most 2^16 actions at each set
 pub record IsSmall (grid1 grid2 : ℕ) (f : Form) : Type 0 where
   pub grids : (1 ≤ grid1) × (grid1 ≤ 2 ^ 12) × (1 ≤ grid2) × (grid2 ≤ 2 ^ 12)
   pub few : length f.rows ≤ 2 ^ 17
   pub rows : HasRows grid1 grid2 f (2 ^ 77)
+  pub actions : All (λ n. n ≤ 2 ^ 16) f.actions1 × All (λ n. n ≤ 2 ^ 16) f.actions2
 
 -- in an accepted game the form of the game is small, and so is that of a subgame, and a gadget by tight bounds
 abbrev pub SmallLaw : Type 0
