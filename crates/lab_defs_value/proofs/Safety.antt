@@ -34,7 +34,7 @@ use Rattle.lab_defs_value.proofs.Splicing.{spliced_strategy, HasOwnPath, worth_o
 -- ---- lists of sets
 
 -- the sets of a list in order are below n
-below_end : (low n I : ℕ) (path : List ℕ) → Ascends low n path → lies_on path I ≡ true → I < n
+pub below_end : (low n I : ℕ) (path : List ℕ) → Ascends low n path → lies_on path I ≡ true → I < n
 below_end low n I [] h on = absurd (both_ways false refl on)
 below_end low n I (x ∷ xs) h on = elim (or_cases (eqb x I) (lies_on xs I) on) [
   | inl e ↦ subst (λ k. k < n) (eqb-true x I e) h.1

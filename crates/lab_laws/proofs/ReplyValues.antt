@@ -10,6 +10,7 @@ use Rattle.lab_defs_value.specs.BestValues.{pure_reply}
 use Rattle.lab_defs_value.specs.Bounds.{at, through, IsBackedUp}
 use Rattle.lab_defs_value.specs.Laws.{Sound}
 use Rattle.lab_defs_value.proofs.Bests.{Choice, pure, pure_earns}
+use Rattle.lab_defs_value.proofs.HoldsTests.{le_from_test}
 use Rattle.lab_defs_value.proofs.Existence.{backed_cong}
 use Rattle.lab_defs_value.proofs.WholePaths.{view_of, view_is, view_decisions, earned_same, through_same}
 use Rattle.lab_defs_value.proofs.BestLaws.{backed_up_tight}
@@ -21,10 +22,6 @@ use Rattle.lab_laws.specs.Rules.{first_greatest, first_action, at_last, last_val
 -- a test of two integers that fails
 above_from_test : (a b : ℤ) → int_le a b ≡ false → (b +ℤ pos 1) ≤ℤ a
 above_from_test a b e = grind (arith, ints)
-
--- and one that is passed
-below_from_test : (a b : ℤ) → int_le a b ≡ true → a ≤ℤ b
-below_from_test a b e = grind (arith, ints)
 
 -- what is known of a first greatest number
 abbrev IsFirst : ℕ → (ℕ → ℤ) → ℕ → Type 0
@@ -39,7 +36,7 @@ first_greatest_law (suc n) h = at_test (int_le (h (suc n)) (h (first_greatest n 
     at_test true e f = (
       omega (arith, f.0),
       λ k l. elim (cases_eq k (suc n)) [
-        | inl q ↦ subst (λ j. h j ≤ℤ h (first_greatest n h)) (sym q) (below_from_test (h (suc n)) (h (first_greatest n h)) e)
+        | inl q ↦ subst (λ j. h j ≤ℤ h (first_greatest n h)) (sym q) (le_from_test (h (suc n)) (h (first_greatest n h)) e)
         | inr ne ↦ f.1 k (omega arith)
       ],
       f.2,

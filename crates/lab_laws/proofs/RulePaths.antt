@@ -1,5 +1,5 @@
 -- Each rule keeps the bounds: values within its limits at a node are so along the path.
-use Rattle.std.proofs.Common.{◌≡◌, ℕ, zero, suc, ◌+◌, ◌<◌, ◌≤◌, ℤ, pos, negsuc, ◌+ℤ◌, ◌-ℤ◌, ◌≤ℤ◌, List, [], ◌∷◌, Bool, true, false, eqb, ◌||◌, Option, Some, None, length, map, refl, ap, ◌∙◌, subst, arith, inl, inr, eqb-true, ltb-true}
+use Rattle.std.proofs.Common.{◌≡◌, ℕ, zero, suc, ◌+◌, ◌<◌, ◌≤◌, ℤ, pos, negsuc, ◌+ℤ◌, ◌-ℤ◌, ◌≤ℤ◌, List, [], ◌∷◌, Bool, true, false, eqb, ◌||◌, Option, Some, None, length, map, refl, ap, ◌∙◌, arith, inl, inr, ltb-true}
 use Rattle.std.specs.Prelude.{nat_lt, slice_index}
 use Rattle.std.specs.List.{AllByRecursion, range_with_len, fold}
 use Rattle.std.specs.Int.{int_max}
@@ -21,6 +21,7 @@ use Rattle.lab_defs_value.proofs.Parenthood.{parents_below}
 use Rattle.lab_defs_value.proofs.Bests.{follows_after}
 use Rattle.lab_defs_value.proofs.WholePaths.{view_of}
 use Rattle.lab_defs_value.proofs.Pools.{reach_law, pool_law}
+use Rattle.lab_defs_value.proofs.Safety.{below_end}
 use Rattle.lab_laws.specs.Rules.{through_along, path_actions, backed_along, IsAlong, AllowanceLaw, RuleLaw}
 
 -- ---- what the allowances keep
@@ -91,18 +92,6 @@ on_of_in (J ∷ list) I (inr i) = at (eqb J I) (on_of_in list I i)
     at : (b : Bool) → lies_on list I ≡ true → (b || lies_on list I) ≡ true
     at true e = refl
     at false e = e
-
--- the sets of a list in order are below its end
-below_end : (low n I : ℕ) (list : List ℕ) → Ascends low n list → lies_on list I ≡ true → I < n
-below_end low n I [] h on = absurd (never on)
-  where
-    never : false ≡ true → ⊥
-    never e = cc
-below_end low n I (J ∷ list) h on = at (eqb J I) refl on (below_end (suc J) n I list h.2)
-  where
-    at : (b : Bool) → eqb J I ≡ b → (b || lies_on list I) ≡ true → (lies_on list I ≡ true → I < n) → I < n
-    at true e p rest = subst (λ k. k < n) (eqb-true J I e) h.1
-    at false e p rest = rest p
 
 -- ---- along the path
 
