@@ -27,7 +27,8 @@ use Rattle.lab_defs_value.proofs.GadgetForms.{all_images}
 use Rattle.lab_defs_value.proofs.RoundedTables.{all_both_parts}
 use Rattle.lab_defs_report.specs.States.{tight_bounds}
 use Rattle.lab_defs_report.specs.Headline.{IsAccepted}
-use Rattle.lab_laws.proofs.SessionParts.{IsSeat, sets_below}
+use Rattle.lab_laws.specs.Sessions.{IsSeat}
+use Rattle.lab_laws.proofs.SessionParts.{sets_below}
 use Rattle.lab_laws.proofs.SizeMass.{turned_size}
 use Rattle.lab_laws.proofs.SizeChance.{some_scale}
 use Rattle.lab_laws.proofs.SizeRanges.{some_grid, some_power}

@@ -25,7 +25,8 @@ use Rattle.lab_defs_value.specs.Subgames.{Span, is_inside, inside, before, renum
 use Rattle.lab_defs_value.proofs.Sizing.{Steps, steps_of, product_le}
 use Rattle.lab_defs_value.proofs.SubgameRows.{set_inside}
 use Rattle.lab_defs_report.specs.Headline.{IsAccepted}
-use Rattle.lab_laws.proofs.SessionParts.{IsSeat, sound}
+use Rattle.lab_laws.specs.Sessions.{IsSeat}
+use Rattle.lab_laws.proofs.SessionParts.{sound}
 use Rattle.lab_laws.proofs.SizeChance.{chance_le, some_scale}
 use Rattle.lab_laws.proofs.SizeRanges.{some_grid, some_power, row_factors}
 use Rattle.lab_laws.specs.Sizes.{row_size, HasRows}

@@ -19,7 +19,8 @@ use Rattle.lab_defs_value.specs.Matching.{Pair, grid_in, table_in, sets_in, weig
 use Rattle.lab_defs_value.proofs.Sizing.{Steps, steps_of, steps_from, product_le, size_law}
 use Rattle.lab_defs_value.proofs.Splicing.{decides_there}
 use Rattle.lab_defs_value.proofs.Earnings.{deciding_splits}
-use Rattle.lab_laws.proofs.SessionParts.{IsSeat, other_seat}
+use Rattle.lab_laws.specs.Sessions.{IsSeat}
+use Rattle.lab_laws.proofs.SessionParts.{other_seat}
 use Rattle.lab_laws.proofs.SizeMass.{turned_size}
 use Rattle.lab_laws.proofs.SizeRanges.{some_power}
 use Rattle.lab_laws.specs.Sizes.{factors_at, IsSmallPair, worths_to, SumLaw}

@@ -12,7 +12,7 @@ use Rattle.lab_defs_value.specs.Matching.{Pair, sets_in, weight_in, action_value
 use Rattle.lab_defs_value.proofs.GadgetForms.{all_images}
 use Rattle.lab_defs_value.proofs.RoundedTables.{rounded_table_law}
 use Rattle.lab_defs_value.proofs.Rounds.{tally_law}
-use Rattle.lab_laws.proofs.SessionParts.{IsSeat}
+use Rattle.lab_laws.specs.Sessions.{IsSeat}
 use Rattle.lab_laws.proofs.SizeSums.{value_small, action_small, reach_small}
 use Rattle.lab_laws.specs.Sizes.{IsSmall, IsSmallPair, TallySizeLaw}
 
