@@ -1,6 +1,6 @@
 //! How large the numbers of a session are.
 
-ghost use Rattle.lab_laws.specs.Sizes.{RangeLaw, LimitLaw, RowLaw, SmallLaw, SumLaw, TallySizeLaw};
+ghost use Rattle.lab_laws.specs.Sizes.{RangeLaw, LimitLaw, RowLaw, SmallLaw, TermLaw, SumLaw, TallySizeLaw};
 
 /// No best value against a table passes the greatest payoff in the units of the bounds.
 pub fn ranges()
@@ -20,6 +20,11 @@ pub fn small_rows()
 /// The form of a game, of a subgame and of a gadget is small.
 pub fn small_forms()
     ensures { SmallLaw }
+{}
+
+/// In a small form no term of a row passes 2^77.
+pub fn small_terms()
+    ensures { TermLaw }
 {}
 
 /// In a small form no expectation and no value passes 2^94.
