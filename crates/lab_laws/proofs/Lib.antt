@@ -13,3 +13,4 @@ pub mod SizeGadgets
 pub mod SizeCounts
 pub mod SizeSums
 pub mod SizeTallies
+pub mod SizeShares

@@ -72,7 +72,7 @@ sum_same c [] = omega arith
 sum_same c (x ∷ xs) = let r = sum_same c xs in omega (arith, r)
 
 -- terms that none passes a number sum to at most as many of it
-sum_most : {X : Type 0} (P : X → Type 0) (f : X → ℕ) (c : ℕ) (xs : List X) → AllByRecursion P xs → ((x : X) → P x → f x ≤ c) → sum_over f xs ≤ length xs * c
+pub sum_most : {X : Type 0} (P : X → Type 0) (f : X → ℕ) (c : ℕ) (xs : List X) → AllByRecursion P xs → ((x : X) → P x → f x ≤ c) → sum_over f xs ≤ length xs * c
 sum_most P f c [] all each = omega arith
 sum_most P f c (x ∷ xs) all each = let r = sum_most P f c xs all.1 each in let e = each x all.0 in omega (arith, r, e)
 

@@ -1,10 +1,12 @@
 -- How large the numbers of a session are.
-use Rattle.std.specs.Prelude.{◌≡◌, ◌⊎◌, All, ℕ, ◌+◌, ◌*◌, ◌^◌, ◌<◌, ◌≤◌, max, unsigned_abs, true, slice_index, pos, neg_ℤ, ◌*ℤ◌, ◌≤ℤ◌, List, length}
+use Rattle.std.specs.Prelude.{◌≡◌, ◌⊎◌, All, ℕ, ◌+◌, ◌*◌, ◌^◌, ◌<◌, ◌≤◌, max, unsigned_abs, true, slice_index, ℤ, pos, neg_ℤ, ◌*ℤ◌, ◌≤ℤ◌, List, length}
+use Rattle.lab_math.specs.Sums.{sum_over}
 use Rattle.lab_defs_text.specs.Games.{GameModel}
 use Rattle.lab_defs_game.specs.Sets.{sets, most_decisions}
 use Rattle.lab_defs_game.specs.Chance.{scale}
 use Rattle.lab_defs_game.specs.Forms.{Row, Form, form_of, game_actions, actions_of, path_of, pad_of, decides, deciding}
 use Rattle.lab_defs_game.specs.Unfolding.{top_payoff}
+use Rattle.lab_defs_value.specs.Rounding.{share_size}
 use Rattle.lab_defs_value.specs.Tables.{own_weight}
 use Rattle.lab_defs_value.specs.Expectation.{grid_of, expectation}
 use Rattle.lab_defs_value.specs.Parents.{passes_through, path_from, IsForm}
@@ -13,7 +15,7 @@ use Rattle.lab_defs_value.specs.Matching.{Pair, grid_in, table_in, sets_in, weig
 use Rattle.lab_defs_value.specs.Replies.{IsTable, strategy_of, other}
 use Rattle.lab_defs_value.specs.BestValues.{best_value}
 use Rattle.lab_defs_value.specs.Bounds.{at}
-use Rattle.lab_defs_value.specs.Allowances.{Rule, allowance, path_sets}
+use Rattle.lab_defs_value.specs.Allowances.{Rule, allowance, path_sets, node_sets}
 use Rattle.lab_defs_value.specs.Passes.{limit}
 use Rattle.lab_defs_value.specs.Subgames.{subgame_form}
 use Rattle.lab_defs_value.specs.Gadgets.{gadget_form}
@@ -108,3 +110,17 @@ abbrev pub TallySizeLaw : Type 0
 TallySizeLaw = (grid1 grid2 : ℕ) (f : Form) → IsForm f 1 → IsForm f 2 → IsSmall grid1 grid2 f → (rounds : ℕ) → rounds ≤ 4096 → (seat : ℕ) → (seat ≡ 1) ⊎ (seat ≡ 2) →
     let t = tally_after grid1 grid2 f rounds in
     All (λ x. unsigned_abs x ≤ 2 ^ 107) (regrets_of t seat) × All (λ x. unsigned_abs x ≤ 2 ^ 89) (sums_of t seat)
+
+-- so it is in an accepted game after at most 4096 rounds: on the whole game, and on a gadget by tight bounds where the opponent has a set at the node
+abbrev pub RoundSizeLaw : Type 0
+RoundSizeLaw = (g : GameModel) → IsAccepted g → (rounds : ℕ) → rounds ≤ 4096 → (seat : ℕ) → (seat ≡ 1) ⊎ (seat ≡ 2) →
+    (let t = tally_after (grid_of g 1) (grid_of g 2) (form_of g) rounds in
+    All (λ x. unsigned_abs x ≤ 2 ^ 107) (regrets_of t seat) × All (λ x. unsigned_abs x ≤ 2 ^ 89) (sums_of t seat))
+    × ((rule : Rule) (keeper : ℕ) → (keeper ≡ 1) ⊎ (keeper ≡ 2) → (node table : List ℕ) → IsTable (game_actions g keeper) (grid_of g keeper) table → 1 ≤ length (node_sets g (other keeper) node) →
+    let t = tally_after (grid_of g 1) (grid_of g 2) (gadget_form g rule keeper node table (tight_bounds g keeper table)) rounds in
+    All (λ x. unsigned_abs x ≤ 2 ^ 107) (regrets_of t seat) × All (λ x. unsigned_abs x ≤ 2 ^ 89) (sums_of t seat))
+
+-- what is rounded stays small: at most 2^16 shares, none above 2^107, sum to at most 2^123, and none passes 2^119 by a grid of at most 2^12
+abbrev pub ShareSizeLaw : Type 0
+ShareSizeLaw = (grid : ℕ) (shares : List ℤ) → grid ≤ 2 ^ 12 → length shares ≤ 2 ^ 16 → All (λ x. unsigned_abs x ≤ 2 ^ 107) shares
+    → (sum_over share_size shares ≤ 2 ^ 123) × All (λ x. grid * share_size x ≤ 2 ^ 119) shares
