@@ -134,13 +134,13 @@ judged g ok p k q is long some = by (first_above (strategy_of g q.seat after) (a
     kept : IsKept g accepted
     kept = record {
       long = both_seats (λ s. length (table_of accepted s) ≡ weight_count g s) q.seat is
-          (ap length (played g p after q.seat is)
-          ∙ (splice_law (game_actions g q.seat) first behind table q.weights fit).0
-          ∙ k.long q.seat is)
-          (ap length (other_table g p after q.seat is) ∙ k.long (other q.seat) (other_seat q.seat is));
+      (ap length (played g p after q.seat is)
+      ∙ (splice_law (game_actions g q.seat) first behind table q.weights fit).0
+      ∙ k.long q.seat is)
+      (ap length (other_table g p after q.seat is) ∙ k.long (other q.seat) (other_seat q.seat is));
       tight = both_seats (λ s. bounds_of accepted s ≡ tight_bounds g s (table_of accepted s)) q.seat is
-          (bounded g p after q.seat is ∙ sym (ap (tight_bounds g q.seat) (played g p after q.seat is)))
-          (other_bounds g p after q.seat is ∙ k.tight (other q.seat) (other_seat q.seat is) ∙ sym (ap (tight_bounds g (other q.seat)) (other_table g p after q.seat is)));
+      (bounded g p after q.seat is ∙ sym (ap (tight_bounds g q.seat) (played g p after q.seat is)))
+      (other_bounds g p after q.seat is ∙ k.tight (other q.seat) (other_seat q.seat is) ∙ sym (ap (tight_bounds g (other q.seat)) (other_table g p after q.seat is)));
     }
 
     by : (o : Option ℕ) → first_above (strategy_of g q.seat after) (at (bounds_of p q.seat)) (allowances g p q) (root_sets g q) ≡ o → IsJudged g p q (verdict g p q o)
@@ -164,7 +164,7 @@ judged g ok p k q is long some = by (first_above (strategy_of g q.seat after) (a
         kept = λ t. absurd cc;
       };
       rises = both_seats (λ s. at (bounds_of accepted s) 0 ≤ℤ at (bounds_of p s) 0) q.seat is
-          (subst (λ b. at b 0 ≤ℤ at (bounds_of p q.seat) 0) (sym (bounded g p after q.seat is)) (low (law.1 e)))
-          (le_of_eq_z _ _ (ap (λ b. at b 0) (other_bounds g p after q.seat is)));
+      (subst (λ b. at b 0 ≤ℤ at (bounds_of p q.seat) 0) (sym (bounded g p after q.seat is)) (low (law.1 e)))
+      (le_of_eq_z _ _ (ap (λ b. at b 0) (other_bounds g p after q.seat is)));
       keeps = kept;
     }
