@@ -23,3 +23,4 @@ pub mod SizeSums
 pub mod SizeTallies
 pub mod RuleParts
 pub mod RuleSubgames
+pub mod SizeShares

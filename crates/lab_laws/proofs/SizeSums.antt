@@ -23,7 +23,7 @@ use Rattle.lab_laws.specs.Sessions.{IsSeat}
 use Rattle.lab_laws.proofs.SessionParts.{other_seat}
 use Rattle.lab_laws.proofs.SizeMass.{turned_size}
 use Rattle.lab_laws.proofs.SizeRanges.{some_power}
-use Rattle.lab_laws.specs.Sizes.{factors_at, IsSmallPair, worths_to, SumLaw}
+use Rattle.lab_laws.specs.Sizes.{factors_at, IsSmallPair, worths_to, TermLaw, SumLaw}
 
 -- ---- parts of a path
 
@@ -73,7 +73,7 @@ sum_same c [] = omega arith
 sum_same c (x ∷ xs) = let r = sum_same c xs in omega (arith, r)
 
 -- terms that none passes a number sum to at most as many of it
-sum_most : {X : Type 0} (P : X → Type 0) (f : X → ℕ) (c : ℕ) (xs : List X) → AllByRecursion P xs → ((x : X) → P x → f x ≤ c) → sum_over f xs ≤ length xs * c
+pub sum_most : {X : Type 0} (P : X → Type 0) (f : X → ℕ) (c : ℕ) (xs : List X) → AllByRecursion P xs → ((x : X) → P x → f x ≤ c) → sum_over f xs ≤ length xs * c
 sum_most P f c [] all each = omega arith
 sum_most P f c (x ∷ xs) all each = let r = sum_most P f c xs all.1 each in let e = each x all.0 in omega (arith, r, e)
 
@@ -222,6 +222,21 @@ module _ (p : Pair) (ok : IsSmallPair p) where
         let le = sum_most (IsSmallRow p seat) (λ z. unsigned_abs (worth_in p seat z)) (2 ^ 77) p.form.rows (recursion_from_All (IsSmallRow p seat) p.form.rows (small_rows seat is)) worth_small in
         omega (arith, le, ok.small.few)
 
+    -- the grid for each deciding set up to one
+    power_small : (I : ℕ) → decides (sets_in p seat) I ≡ true → (z : Row) → IsSmallRow p seat z → passes_through I (path_of z seat) ≡ true
+        → grid_in p seat ^ (deciding (sets_in p seat) (path_before I (path_of z seat)) + 1) ≤ 2 ^ 77
+    power_small I d z h on =
+        let ns = sets_in p seat in
+        let D = grid_in p seat in
+        let b = deciding ns (path_before I (path_of z seat)) in
+        let f = factors_at p.form seat z in
+        let more : D ^ (b + 1) ≤ D ^ f = pow-le-pow_right (grid_small seat is).0 (omega (arith, deciding_splits ns I (path_of z seat), behind_one ns I d (path_of z seat) on)) in
+        let theirs : 1 ≤ grid_in p (other seat) ^ factors_at p.form (other seat) z = some_power (grid_in p (other seat)) (factors_at p.form (other seat) z) (grid_small (other seat) (other_seat seat is)).0 in
+        let left : 1 ≤ max 1 (unsigned_abs z.worth) = omega arith in
+        let inner : D ^ f * 1 ≤ D ^ f * grid_in p (other seat) ^ factors_at p.form (other seat) z = mul-le-mul (le_of_eq refl) theirs in
+        let whole : 1 * (D ^ f * 1) ≤ max 1 (unsigned_abs z.worth) * (D ^ f * grid_in p (other seat) ^ factors_at p.form (other seat) z) = mul-le-mul left inner in
+        omega (arith, more, whole, h.0)
+
     -- the weights up to an action of a deciding set
     pub reach_small : (I : ℕ) → decides (sets_in p seat) I ≡ true → (a : ℕ) → a < slice_index (sets_in p seat) I → reach_in p seat p.form.rows I * weight_in p seat I a ≤ 2 ^ 77
     reach_small I d a l =
@@ -234,16 +249,12 @@ module _ (p : Pair) (ok : IsSmallPair p) where
             let ns = sets_in p seat in
             let D = grid_in p seat in
             let b = deciding ns (path_before I (path_of z seat)) in
-            let f = factors_at p.form seat z in
             let most = along_most seat is (path_before I (path_of z seat)) (steps_before ns I (path_of z seat) h.2) in
             let l : weight_along p seat (path_before I (path_of z seat)) * w ≤ D ^ b * D = mul-le-mul most le in
-            let more : D ^ suc b ≤ D ^ f = pow-le-pow_right (grid_small seat is).0 (omega (arith, deciding_splits ns I (path_of z seat), behind_one ns I d (path_of z seat) on)) in
-            let one : D ^ suc b ≡ D ^ b * D = pow-suc D b in
-            let theirs : 1 ≤ grid_in p (other seat) ^ factors_at p.form (other seat) z = some_power (grid_in p (other seat)) (factors_at p.form (other seat) z) (grid_small (other seat) (other_seat seat is)).0 in
-            let left : 1 ≤ max 1 (unsigned_abs z.worth) = omega arith in
-            let inner : D ^ f * 1 ≤ D ^ f * grid_in p (other seat) ^ factors_at p.form (other seat) z = mul-le-mul (le_of_eq refl) theirs in
-            let whole : 1 * (D ^ f * 1) ≤ max 1 (unsigned_abs z.worth) * (D ^ f * grid_in p (other seat) ^ factors_at p.form (other seat) z) = mul-le-mul left inner in
-            omega (arith, l, more, one, whole, h.0)
+            let next : b + 1 ≡ suc b = omega arith in
+            let one : D ^ (b + 1) ≡ D ^ b * D = ap (λ n. D ^ n) next ∙ pow-suc D b in
+            let small = power_small I d z h on in
+            omega (arith, l, one, small)
 
         over : (rows : List Row) → AllByRecursion (IsSmallRow p seat) rows → (w : ℕ) → w ≤ grid_in p seat → reach_in p seat rows I * w ≤ 2 ^ 77
         over [] all w le = let g = (grid_small seat is).1 in omega (arith, le, g)
@@ -258,14 +269,12 @@ module _ (p : Pair) (ok : IsSmallPair p) where
   worths_small seat (inl e) = subst (λ k. worths_to p k ≤ 2 ^ 94) (sym e) (worth_sum 1 (inl refl))
   worths_small seat (inr e) = subst (λ k. worths_to p k ≤ 2 ^ 94) (sym e) (worth_sum 2 (inr refl))
 
-  -- what seat 1 expects
-  expected_small : unsigned_abs (expectation p.grid1 p.grid2 p.form p.table1 p.table2) ≤ 2 ^ 94
-  expected_small =
-      many (λ z. IsSmallRow p 1 z × IsSmallRow p 2 z)
-      (λ z. z.worth *ℤ pos (own_weight p.grid1 p.form.actions1 p.table1 z.path1 z.pad1 * own_weight p.grid2 p.form.actions2 p.table2 z.path2 z.pad2)) p.form.rows ok.small.few
-      (λ k d l. (rows1 k d l, rows2 k d l))
-      (λ z h. each z.worth (own_weight p.grid1 p.form.actions1 p.table1 z.path1 z.pad1) (own_weight p.grid2 p.form.actions2 p.table2 z.path2 z.pad2)
-      (p.grid1 ^ factors_at p.form 1 z) (p.grid2 ^ factors_at p.form 2 z) h.1.1 h.0.1 h.0.0)
+  -- a row's term in what seat 1 expects
+  terms_small : All (λ z. unsigned_abs (z.worth *ℤ pos (own_weight p.grid1 p.form.actions1 p.table1 z.path1 z.pad1 * own_weight p.grid2 p.form.actions2 p.table2 z.path2 z.pad2)) ≤ 2 ^ 77) p.form.rows
+  terms_small k d l =
+      let z = get_or p.form.rows k d in
+      each z.worth (own_weight p.grid1 p.form.actions1 p.table1 z.path1 z.pad1) (own_weight p.grid2 p.form.actions2 p.table2 z.path2 z.pad2)
+      (p.grid1 ^ factors_at p.form 1 z) (p.grid2 ^ factors_at p.form 2 z) (rows2 k d l).1 (rows1 k d l).1 (rows1 k d l).0
     where
       each : (w : ℤ) (a b x y : ℕ) → a ≤ x → b ≤ y → max 1 (unsigned_abs w) * (x * y) ≤ 2 ^ 77 → unsigned_abs (w *ℤ pos (a * b)) ≤ 2 ^ 77
       each w a b x y p q whole =
@@ -275,6 +284,28 @@ module _ (p : Pair) (ok : IsSmallPair p) where
           let l : unsigned_abs w * (a * b) ≤ max 1 (unsigned_abs w) * (x * y) = mul-le-mul large inner in
           omega (arith, size, l, whole)
 
+  -- what seat 1 expects
+  expected_small : unsigned_abs (expectation p.grid1 p.grid2 p.form p.table1 p.table2) ≤ 2 ^ 94
+  expected_small =
+      let f = λ (z : Row). z.worth *ℤ pos (own_weight p.grid1 p.form.actions1 p.table1 z.path1 z.pad1 * own_weight p.grid2 p.form.actions2 p.table2 z.path2 z.pad2) in
+      many (λ z. unsigned_abs (f z) ≤ 2 ^ 77) f p.form.rows ok.small.few terms_small (λ z h. h)
+
+-- the law of terms
+pub term_law : TermLaw
+term_law p ok = (
+  terms_small p ok,
+  λ seat is. (
+    λ k d l. worth_small p ok seat is (get_or p.form.rows k d) (small_rows p ok seat is k d l),
+    λ I. (
+      λ k d l. let z = get_or p.form.rows k d in let h = small_rows p ok seat is k d l in term p ok seat is z _ h (value_weight p ok seat is I z h),
+      λ e. (
+        λ k d l on. let z = get_or p.form.rows k d in let h = small_rows p ok seat is k d l in term p ok seat is z _ h (action_weight p ok seat is I e z h on),
+        λ k d l on. power_small p ok seat is I e (get_or p.form.rows k d) (small_rows p ok seat is k d l) on,
+      ),
+    ),
+  ),
+)
+
 -- the law of sums
 pub sum_law : SumLaw
-sum_law p ok = (expected_small p ok, λ seat is. (worths_small p ok seat is, λ I d. (value_small p ok seat is I, action_small p ok seat is I d, reach_small p ok seat is I d)))
+sum_law p ok = (expected_small p ok, λ seat is. (worths_small p ok seat is, λ I. (value_small p ok seat is I, λ d. (action_small p ok seat is I d, reach_small p ok seat is I d))))
