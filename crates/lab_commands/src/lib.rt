@@ -18,7 +18,8 @@ mod tests {
     #[test]
     fn reads_commands(rt: HostRuntime) -> Result<(), Fail> {
         let alloc = rt.alloc();
-        match command_at(alloc, 1, b"propose 1 4 reach 2 0 1 1") {
+        let proposal = command_at(alloc, 1, b"propose 1 4 reach 2 0 1 1");
+        match &proposal {
             Ok(
                 Command::Propose {
                     seat,
@@ -27,12 +28,13 @@ mod tests {
                     weights,
                 },
             ) => {
-                assert!(rt; seat == 1 && node == 4 && rule == RuleName::Reach);
+                assert!(rt; *seat == 1 && *node == 4 && *rule == RuleName::Reach);
                 assert_eq!(rt; weights.as_slice(), [2, 0, 1, 1].as_slice());
             }
             _ => assert!(rt; false, "no proposal"),
         }
-        match command_at(alloc, 1, b"deal 0 18446744073709551615") {
+        let deal = command_at(alloc, 1, b"deal 0 18446744073709551615");
+        match &deal {
             Ok(Command::Deal { words }) => assert_eq!(rt;
                 words.as_slice(),
                 [0, u64::MAX].as_slice()
