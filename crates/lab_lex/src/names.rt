@@ -22,6 +22,7 @@ ghost use Rattle.std.specs.Prelude.{
   string_bytes,
 };
 ghost use Rattle.std.specs.Str.{bytes_eq};
+ghost use Rattle.lab_lex.specs.Names.{name_bytes};
 
 use indexmap::IndexSet;
 use std::alloc::Global;
@@ -124,16 +125,16 @@ fn insert_new(names: &mut IndexSet<String>, name: &str) -> Result<(), NoMemory>
 }
 
 /// The place of a name in a list, which is walked: for lists that are too short to be worth a table.
-pub fn place_of_name(names: &[String], name: &str) -> Option<u32>
+pub fn place_of_name(names: &[&str], name: &str) -> Option<u32>
     requires { length names.now < 2 ^ 32 }
-    ensures { result ≡ position (bytes_eq name.now) (map string_bytes names.now) }
+    ensures { result ≡ position (bytes_eq name.now) (map name_bytes names.now) }
 {
     let place = first_named(names, name)?;
     Some(place as u32)
 }
 
-fn first_named(names: &[String], name: &str) -> Option<usize>
-    ensures { result ≡ position (λ k. bytes_eq name.now (string_bytes k)) names.now }
+fn first_named(names: &[&str], name: &str) -> Option<usize>
+    ensures { result ≡ position (λ k. bytes_eq name.now (name_bytes k)) names.now }
 {
-    names.iter().position(|other| name == other.as_str())
+    names.iter().position(|other| name == *other)
 }

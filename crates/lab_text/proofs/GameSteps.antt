@@ -1,5 +1,6 @@
 -- From the parts of a text to its game.
 use Rattle.std.proofs.Common.{◌≡◌, Option, Result, Ok, Err, sym, ap, subst, ◌∙◌, true}
+use Rattle.std.specs.Borrow.{Bor}
 use Rattle.lab_defs_text.specs.Agreement.{Agrees, FaultAgrees}
 use Rattle.lab_defs_text.specs.Faults.{TextFault}
 use Rattle.lab_defs_text.specs.Steps.{◌>>=◌}
@@ -14,7 +15,7 @@ use Rattle.lab_defs_text.proofs.PartsLemmas.{parts_fit}
 use Rattle.lab_defs_text.proofs.ReadTextLemmas.{text_law}
 use Rattle.lab_world.specs.declared.game.Game.{Game}
 use Rattle.lab_world.specs.declared.parts.Parts.{Parts}
-use Rattle.lab_world.specs.Drafts.{draft_of}
+use Rattle.lab_world.specs.Drafts.{named_draft_of}
 use Rattle.lab_world.specs.Games.{game_model}
 use Rattle.lab_text.specs.declared.fault.TextFault.{TextFault as Fault}
 use Rattle.lab_text.specs.declared.draft.Draft.{Draft}
@@ -23,19 +24,19 @@ use Rattle.lab_text.specs.Drafts.{draft_is, all_parts}
 use Rattle.lab_text.proofs.FaultSteps.{fault_same}
 
 -- parts that were read are in order
-pub all_fit : (bytes : Bytes) (x : Draft) (p : Parts) → parts_of bytes ≡ Ok (draft_is x) → p ≡ all_parts x → parts_ok (draft_of p) ≡ true
-all_fit bytes x p e f = ap (λ (q : Parts). parts_ok (draft_of q)) f ∙ parts_fit bytes (draft_is x) e
+pub all_fit : (bytes : Bytes) (x : Draft) (p : Parts (Bor Bytes)) → parts_of bytes ≡ Ok (draft_is x) → p ≡ all_parts x → parts_ok (named_draft_of p) ≡ true
+all_fit bytes x p e f = ap (λ (q : Parts (Bor Bytes)). parts_ok (named_draft_of q)) f ∙ parts_fit bytes (draft_is x) e
 
 -- the game of a text is that of the parts that were read
-pub game_is : (bytes : Bytes) (x : Draft) (p : Parts) → parts_of bytes ≡ Ok (draft_is x) → p ≡ all_parts x → game_of bytes ≡ assembled (draft_of p)
-game_is bytes x p e f = ap (λ r. r >>= assembled) e ∙ ap (λ (q : Parts). assembled (draft_of q)) (sym f)
+pub game_is : (bytes : Bytes) (x : Draft) (p : Parts (Bor Bytes)) → parts_of bytes ≡ Ok (draft_is x) → p ≡ all_parts x → game_of bytes ≡ assembled (named_draft_of p)
+game_is bytes x p e f = ap (λ r. r >>= assembled) e ∙ ap (λ (q : Parts (Bor Bytes)). assembled (named_draft_of q)) (sym f)
 
 -- a fault of the parts is one of the text
 pub parts_fault : (bytes : Bytes) (fault : Option TextFault) → FaultAgrees fault (parts_of bytes) → FaultAgrees fault (game_of bytes)
 parts_fault bytes fault e = fault_same fault (parts_of bytes) (game_of bytes) (λ f h. ap (λ r. r >>= assembled) h) e
 
 -- a fault of the whole is one of the text
-pub whole_fault : (bytes : Bytes) (x : Draft) (p : Parts) (fault : Option TextFault) → parts_of bytes ≡ Ok (draft_is x) → p ≡ all_parts x → FaultAgrees fault (assembled (draft_of p)) → FaultAgrees fault (game_of bytes)
+pub whole_fault : (bytes : Bytes) (x : Draft) (p : Parts (Bor Bytes)) (fault : Option TextFault) → parts_of bytes ≡ Ok (draft_is x) → p ≡ all_parts x → FaultAgrees fault (assembled (named_draft_of p)) → FaultAgrees fault (game_of bytes)
 whole_fault bytes x p fault e f h = subst (λ r. FaultAgrees fault r) (sym (game_is bytes x p e f)) h
 
 -- a fault that was answered is that of the text

@@ -1,7 +1,6 @@
 -- Names that are added, and names that stand twice.
-use Rattle.std.proofs.Common.{◌≡◌, ℕ, zero, suc, ◌+◌, ◌<◌, Bool, true, List, [], ◌∷◌, ◌++◌, length, get_or, take, drop, string_bytes, position, Option, Some, None, is_some, Ok, Err, refl, false, ap, sym, ◌∙◌, arith}
-use Rattle.std.specs.Prelude.{String}
-use Rattle.std.specs.Global.{Global}
+use Rattle.std.proofs.Common.{◌≡◌, ℕ, zero, suc, ◌+◌, ◌<◌, Bool, true, List, [], ◌∷◌, ◌++◌, length, get_or, take, drop, position, Option, Some, None, is_some, Ok, Err, refl, false, ap, sym, ◌∙◌, arith}
+use Rattle.std.specs.Borrow.{Bor}
 use Rattle.std.specs.List.{list_any}
 use Rattle.std.specs.Str.{bytes_eq}
 use Rattle.std.proofs.lemmas.Bool.{cond-true, cond-false, or_left, or_right}
@@ -11,7 +10,7 @@ use Rattle.lab_defs_text.specs.Words.{Bytes, stands_in}
 use Rattle.lab_defs_text.specs.Faults.{twice_at}
 use Rattle.lab_defs_text.specs.Drafts.{first_twice, unless_twice}
 use Rattle.lab_lex.proofs.Positions.{list_any-from_None}
-use Rattle.lab_text.specs.Drafts.{name_list}
+use Rattle.lab_text.specs.Drafts.{pieces}
 
 -- an item that passes a test
 any_at : {X : Type 0} (p : X → Bool) (xs : List X) (i : ℕ) (d : X) → i < length xs → p (get_or xs i d) ≡ true → list_any p xs ≡ true
@@ -32,30 +31,31 @@ pub old_name : {A : Type 0} (n : Bytes) (ns : List Bytes) (x : A) (k : ℕ) → 
 old_name n ns x k e = cond-true (stands_in n ns) (Err (twice_at 2)) (Ok x) (stands_found n ns k e)
 
 -- the name at a place stands before it
-pub twice_here : (place : ℕ) (before : List Bytes) (ns : List (String Global)) (i : ℕ) (x : String Global) (n : Bytes) (k : ℕ) → i < length ns → x ≡ get_or ns i x → n ≡ string_bytes x
-    → position (bytes_eq n) before ≡ Some k → first_twice place before (name_list (drop i ns)) ≡ place
-twice_here place before ns i x n k h e f p =
-    ap (λ (ys : List (String Global)). first_twice place before (name_list ys)) (drop_more ns i x h ∙ ap (λ (y : String Global). y ∷ drop (i + 1) ns) (sym e))
-    ∙ cond-true (stands_in (string_bytes x) before) place (first_twice (place + 1) (before ++ string_bytes x ∷ []) (name_list (drop (i + 1) ns))) (ap (λ (m : Bytes). stands_in m before) (sym f) ∙ stands_found n before k p)
+pub twice_here : (place : ℕ) (before : List Bytes) (ns : List (Bor Bytes)) (i : ℕ) (d : Bor Bytes) (k : ℕ) → i < length ns
+    → position (bytes_eq (get_or ns i d).now) before ≡ Some k → first_twice place before (pieces (drop i ns)) ≡ place
+twice_here place before ns i d k h p =
+    let n = (get_or ns i d).now in
+    ap (λ (ys : List (Bor Bytes)). first_twice place before (pieces ys)) (drop_more ns i d h)
+    ∙ cond-true (stands_in n before) place (first_twice (place + 1) (before ++ n ∷ []) (pieces (drop (i + 1) ns))) (stands_found n before k p)
 
 -- the name at a place is new
-pub twice_later : (place : ℕ) (before after : List Bytes) (ns : List (String Global)) (i : ℕ) (x : String Global) (n : Bytes) → i < length ns → x ≡ get_or ns i x → n ≡ string_bytes x
-    → position (bytes_eq n) before ≡ None → after ≡ before ++ n ∷ [] → first_twice (place + 1) after (name_list (drop (i + 1) ns)) ≡ first_twice place before (name_list (drop i ns))
-twice_later place before after ns i x n h e f p a =
-    ap (λ (bs : List Bytes). first_twice (place + 1) bs (name_list (drop (i + 1) ns))) (a ∙ ap (λ (m : Bytes). before ++ m ∷ []) f)
-    ∙ sym (ap (λ (ys : List (String Global)). first_twice place before (name_list ys)) (drop_more ns i x h ∙ ap (λ (y : String Global). y ∷ drop (i + 1) ns) (sym e))
-    ∙ cond-false (stands_in (string_bytes x) before) place (first_twice (place + 1) (before ++ string_bytes x ∷ []) (name_list (drop (i + 1) ns))) (ap (λ (m : Bytes). stands_in m before) (sym f) ∙ list_any-from_None (bytes_eq n) before p))
+pub twice_later : (place : ℕ) (before after : List Bytes) (ns : List (Bor Bytes)) (i : ℕ) (d : Bor Bytes) → i < length ns
+    → position (bytes_eq (get_or ns i d).now) before ≡ None → after ≡ before ++ (get_or ns i d).now ∷ [] → first_twice (place + 1) after (pieces (drop (i + 1) ns)) ≡ first_twice place before (pieces (drop i ns))
+twice_later place before after ns i d h p a =
+    let n = (get_or ns i d).now in
+    ap (λ (bs : List Bytes). first_twice (place + 1) bs (pieces (drop (i + 1) ns))) a
+    ∙ sym (ap (λ (ys : List (Bor Bytes)). first_twice place before (pieces ys)) (drop_more ns i d h)
+    ∙ cond-false (stands_in n before) place (first_twice (place + 1) (before ++ n ∷ []) (pieces (drop (i + 1) ns))) (list_any-from_None (bytes_eq n) before p))
 
 -- the names up to a place are those before it, and that at it
-pub names_up_to : (ns : List (String Global)) (i : ℕ) (x : String Global) (n : Bytes) → i < length ns → x ≡ get_or ns i x → n ≡ string_bytes x → name_list (take (i + 1) ns) ≡ name_list (take i ns) ++ n ∷ []
-names_up_to ns i x n h e f =
-    ap name_list (take_more ns i x h ∙ ap (λ (y : String Global). take i ns ++ y ∷ []) (sym e)) ∙ map-append string_bytes (take i ns) (x ∷ []) ∙ ap (λ (m : Bytes). name_list (take i ns) ++ m ∷ []) (sym f)
+pub names_up_to : (ns : List (Bor Bytes)) (i : ℕ) (d : Bor Bytes) → i < length ns → pieces (take (i + 1) ns) ≡ pieces (take i ns) ++ (get_or ns i d).now ∷ []
+names_up_to ns i d h = ap pieces (take_more ns i d h) ∙ map-append (λ (n : Bor Bytes). n.now) (take i ns) (get_or ns i d ∷ [])
 
 -- the name at a place stands before it, as a search tells
-pub twice_where_found : (place : ℕ) (before : List Bytes) (ns : List (String Global)) (i : ℕ) (x : String Global) (n : Bytes) (found : Option ℕ) → i < length ns → x ≡ get_or ns i x → n ≡ string_bytes x
-    → found ≡ position (bytes_eq n) before → is_some found ≡ true → first_twice place before (name_list (drop i ns)) ≡ place
-twice_where_found place before ns i x n None h e f p t = absurd cc
-twice_where_found place before ns i x n (Some k) h e f p t = twice_here place before ns i x n k h e f (sym p)
+pub twice_where_found : (place : ℕ) (before : List Bytes) (ns : List (Bor Bytes)) (i : ℕ) (d : Bor Bytes) (found : Option ℕ) → i < length ns
+    → found ≡ position (bytes_eq (get_or ns i d).now) before → is_some found ≡ true → first_twice place before (pieces (drop i ns)) ≡ place
+twice_where_found place before ns i d None h p t = absurd cc
+twice_where_found place before ns i d (Some k) h p t = twice_here place before ns i d k h (sym p)
 
 -- likewise that it is new
 pub found_nowhere : (found : Option ℕ) → is_some found ≡ false → found ≡ None

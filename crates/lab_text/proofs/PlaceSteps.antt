@@ -1,8 +1,10 @@
 -- Places with their names, and lines that add to them.
-use Rattle.std.proofs.Common.{◌≡◌, ℕ, ◌+◌, ◌<◌, ◌≤◌, ℤ, Bool, true, false, List, [], ◌∷◌, ◌++◌, length, map, string_bytes, Ok, Err, refl, ap, sym, ◌∙◌, arith, length-append, append-nil}
+use Rattle.std.proofs.Common.{◌≡◌, ℕ, ◌+◌, ◌<◌, ◌≤◌, ℤ, Bool, true, false, List, [], ◌∷◌, ◌++◌, length, map, Ok, Err, refl, ap, sym, ◌∙◌, arith, length-append, append-nil}
+use Rattle.std.specs.Borrow.{Bor}
 use Rattle.std.proofs.lemmas.Bool.{cond-false}
 use Rattle.std.proofs.lemmas.List.{map-append, get_or_past}
 use Rattle.std.proofs.Math.Seq.{get_or-append_seam}
+use Rattle.lab_lex.specs.Names.{name_bytes}
 use Rattle.lab_defs_text.specs.Words.{Bytes, stands_in}
 use Rattle.lab_defs_text.specs.Faults.{LineFault, twice_at}
 use Rattle.lab_defs_text.specs.Texts.{name_of}
@@ -27,25 +29,25 @@ places_none [] = refl
 places_none (n ∷ ns) = refl
 
 -- one place more has the next name
-places_more : (ns : List Bytes) (ps : List PartPlace) (p : PartPlace) → length ps < length ns → part_places_of ns (ps ++ p ∷ []) ≡ part_places_of ns ps ++ part_place_of (name_of ns (length ps)) p ∷ []
+places_more : (ns : List Bytes) (ps : List (PartPlace (Bor Bytes))) (p : PartPlace (Bor Bytes)) → length ps < length ns → part_places_of ns (ps ++ p ∷ []) ≡ part_places_of ns ps ++ part_place_of (name_of ns (length ps)) p ∷ []
 places_more [] ps p h = absurd (omega arith)
 places_more (n ∷ ns) [] p h = ap (λ (xs : List draft.PartPlace). part_place_of n p ∷ xs) (places_none ns)
 places_more (n ∷ ns) (q ∷ ps) p h = ap (λ (xs : List draft.PartPlace). part_place_of n q ∷ xs) (places_more ns ps p (omega arith))
 
 -- a name behind those of the places changes none
-places_same : (ns ms : List Bytes) (ps : List PartPlace) → length ps ≤ length ns → part_places_of (ns ++ ms) ps ≡ part_places_of ns ps
+places_same : (ns ms : List Bytes) (ps : List (PartPlace (Bor Bytes))) → length ps ≤ length ns → part_places_of (ns ++ ms) ps ≡ part_places_of ns ps
 places_same [] ms [] h = places_none ms
 places_same [] ms (p ∷ ps) h = absurd (omega arith)
 places_same (n ∷ ns) ms [] h = refl
 places_same (n ∷ ns) ms (p ∷ ps) h = ap (λ (xs : List draft.PartPlace). part_place_of n p ∷ xs) (places_same ns ms ps (omega arith))
 
 -- the name of a place is the one that it is given
-name_given : (n : Bytes) (p : PartPlace) → draft.place_name (part_place_of n p) ≡ n
+name_given : (n : Bytes) (p : PartPlace (Bor Bytes)) → draft.place_name (part_place_of n p) ≡ n
 name_given n (place.World line one two rows) = refl
 name_given n (place.End line payoff) = refl
 
 -- the names of the places, where each has one
-names_are : (ns : List Bytes) (ps : List PartPlace) → length ns ≡ length ps → map draft.place_name (part_places_of ns ps) ≡ ns
+names_are : (ns : List Bytes) (ps : List (PartPlace (Bor Bytes))) → length ns ≡ length ps → map draft.place_name (part_places_of ns ps) ≡ ns
 names_are [] ps h = refl
 names_are (n ∷ ns) [] h = absurd (omega arith)
 names_are (n ∷ ns) (p ∷ ps) h = let a = name_given n p in let b = names_are ns ps (omega arith) in rw (a, b) refl
@@ -150,7 +152,7 @@ pub world_begins : (n : ℕ) (last : LineKind) (old closed : Draft) (ws : List B
       places = part_places_of names closed.places.items;
       open_world = open_world_of (name_of names (length closed.places.items)) world;
       open_row = open_row_of closed.open_row;
-      root = string_bytes closed.root;
+      root = name_bytes closed.root;
       root_line = closed.root_line;
     })
 world_begins n last old closed ws w name names world h c a b t e =
@@ -171,7 +173,7 @@ world_refused n last old closed ws w name f h c a b t =
     world_applied n last old closed ws w name h c a b ∙ old_is (stands_in name closed.names) (closed.names ++ name ∷ []) (begun n last old name) f t
 
 -- an end is added
-pub end_added : (n : ℕ) (last : LineKind) (old closed : Draft) (ws : List Bytes) (w v name : Bytes) (payoff : ℤ) (names : List Bytes) (pushed : List PartPlace) → length old.names ≡ length old.places.items + whole_worlds last
+pub end_added : (n : ℕ) (last : LineKind) (old closed : Draft) (ws : List Bytes) (w v name : Bytes) (payoff : ℤ) (names : List Bytes) (pushed : List (PartPlace (Bor Bytes))) → length old.names ≡ length old.places.items + whole_worlds last
     → Closed last old closed → two_words ws ≡ Ok (w, v) → name_at 2 w ≡ Ok name → payoff_at 3 v ≡ Ok payoff → draft.unless_twice (stands_in name closed.names) (closed.names ++ name ∷ []) ≡ Ok names
     → pushed ≡ closed.places.items ++ place.End n payoff ∷ []
     → applied n last old (rest_at end_kind ws) ≡ Ok (record {
@@ -182,7 +184,7 @@ pub end_added : (n : ℕ) (last : LineKind) (old closed : Draft) (ws : List Byte
       places = part_places_of names pushed;
       open_world = open_world_of (name_of names (length pushed)) closed.open_world;
       open_row = open_row_of closed.open_row;
-      root = string_bytes closed.root;
+      root = name_bytes closed.root;
       root_line = closed.root_line;
     })
 end_added n last old closed ws w v name payoff names pushed h c a b p t e =
@@ -208,8 +210,8 @@ end_refused n last old closed ws w v name payoff f h c a b p t =
     end_applied n last old closed ws w v name payoff h c a b p ∙ old_is (stands_in name closed.names) (closed.names ++ name ∷ []) (ended n last old name payoff) f t
 
 -- the root is named
-pub root_named : (n : ℕ) (last : LineKind) (old closed : Draft) (ws : List Bytes) (w name root : Bytes) → length old.names ≡ length old.places.items + whole_worlds last → Closed last old closed
-    → one_word ws ≡ Ok w → name_at 2 w ≡ Ok name → root ≡ name
+pub root_named : (n : ℕ) (last : LineKind) (old closed : Draft) (ws : List Bytes) (w name : Bytes) → length old.names ≡ length old.places.items + whole_worlds last → Closed last old closed
+    → one_word ws ≡ Ok w → name_at 2 w ≡ Ok name
     → applied n last old (rest_at root_kind ws) ≡ Ok (record {
       grid = closed.grid;
       horizon = closed.horizon;
@@ -218,13 +220,13 @@ pub root_named : (n : ℕ) (last : LineKind) (old closed : Draft) (ws : List Byt
       places = part_places_of closed.names closed.places.items;
       open_world = open_world_of (name_of closed.names (length closed.places.items)) closed.open_world;
       open_row = open_row_of closed.open_row;
-      root = root;
+      root = name;
       root_line = n;
     })
-root_named n last old closed ws w name root h c a b e =
+root_named n last old closed ws w name h c a b =
     let read : rest_at root_kind ws ≡ Ok (root_line name) = rw (a, b) refl in
     let count = ap length c.places in
     let places = places_closed last old closed closed.names [] h c (sym (append-nil closed.names)) in
     let world = ap (λ m. open_world_of m closed.open_world) (name_past closed.names (length closed.places.items) (omega (arith, count, h, closed_length last old, ap length c.names))) ∙ c.world ∙ sym (cleared_world_is last old h) in
     let row = c.row ∙ sym (cleared_row_is last old) in
-    ap (applied n last old) read ∙ cc (places, world, row, e, c.grid, c.horizon, c.recall, c.tokens)
+    ap (applied n last old) read ∙ cc (places, world, row, c.grid, c.horizon, c.recall, c.tokens)

@@ -1,7 +1,6 @@
 -- What is read so far, as the definitions have it.
-use Rattle.std.specs.Prelude.{◌≡◌, ◌+◌, ◌<◌, ℕ, List, [], ◌∷◌, ◌++◌, map, length, string_bytes, String, Bool, ◌==◌, Result, Ok}
+use Rattle.std.specs.Prelude.{◌≡◌, ◌+◌, ◌<◌, ℕ, List, [], ◌∷◌, ◌++◌, map, length, Bool, ◌==◌, Result, Ok}
 use Rattle.std.specs.Borrow.{Bor}
-use Rattle.std.specs.Global.{Global}
 use Rattle.lab_defs_text.specs.Steps.{◌>>=◌}
 use Rattle.lab_defs_text.specs.Words.{Bytes}
 use Rattle.lab_defs_text.specs.Faults.{LineFault}
@@ -9,6 +8,7 @@ use Rattle.lab_defs_text.specs.Lines.{Line}
 use Rattle.lab_defs_text.specs.Texts.{name_of}
 use Rattle.lab_defs_text.specs.Reading.{Kind, start_kind, head_kind, grid_kind, horizon_kind, memory_kind, token_kind, world_kind, one_kind, two_kind, row_kind, to_kind, end_kind, root_kind, done_kind, kind_of, line_at, some_words, names_at}
 use Rattle.lab_defs_text.specs.Drafts as draft
+use Rattle.lab_lex.specs.Names.{name_bytes}
 use Rattle.lab_world.specs.declared.parts.PartPlace.{PartPlace}
 use Rattle.lab_world.specs.declared.parts.PartPlace.TheVariants as place
 use Rattle.lab_world.specs.declared.parts.PartRow.{PartRow}
@@ -41,16 +41,12 @@ kind_is kind.Done = done_kind
 abbrev pub pieces : List (Bor Bytes) → List Bytes
 pieces ws = map (λ w. w.now) ws
 
--- names as their bytes
-abbrev pub name_list : List (String Global) → List Bytes
-name_list ns = map string_bytes ns
-
 abbrev pub open_row_of : OpenRow → draft.PartRow
-open_row_of r = record { line = r.line; first = string_bytes r.first; second = string_bytes r.second; outcomes = map part_outcome_of r.outcomes.items }
+open_row_of r = record { line = r.line; first = name_bytes r.first; second = name_bytes r.second; outcomes = map part_outcome_of r.outcomes.items }
 
 -- the open world with its name
 abbrev pub open_world_of : Bytes → OpenWorld → draft.PartWorld
-open_world_of name w = record { name = name; line = w.line; one = name_list w.one.items; two = name_list w.two.items; rows = map part_row_of w.rows.items }
+open_world_of name w = record { name = name; line = w.line; one = pieces w.one.items; two = pieces w.two.items; rows = map part_row_of w.rows.items }
 
 -- the parts so far: the name behind those of the places is that of the open world
 abbrev pub draft_is : Draft → draft.Draft
@@ -62,7 +58,7 @@ draft_is x = record {
   places = part_places_of x.names x.places.items;
   open_world = open_world_of (name_of x.names (length x.places.items)) x.open_world;
   open_row = open_row_of x.open_row;
-  root = string_bytes x.root;
+  root = name_bytes x.root;
   root_line = x.root_line;
 }
 
@@ -79,15 +75,15 @@ abbrev pub stepped : ℕ → LineKind → Draft → Bytes → Result (Kind × dr
 stepped n last x bytes = line_at (kind_is last) bytes >>= λ l. draft.with_line n (kind_is last) (draft_is x) l >>= λ e. Ok (kind_of l, e)
 
 -- a row with all its outcomes
-abbrev pub whole_row : OpenRow → PartRow
+abbrev pub whole_row : OpenRow → PartRow (Bor Bytes)
 whole_row r = record { line = r.line; first = r.first; second = r.second; outcomes = r.outcomes.items }
 
 -- a world with its last row
-abbrev pub whole_world : OpenWorld → OpenRow → PartPlace
+abbrev pub whole_world : OpenWorld → OpenRow → PartPlace (Bor Bytes)
 whole_world w r = place.World w.line w.one.items w.two.items (w.rows.items ++ whole_row r ∷ [])
 
 -- the places: behind an outcome the last world is one of them
-abbrev pub closed_places : LineKind → Draft → List PartPlace
+abbrev pub closed_places : LineKind → Draft → List (PartPlace (Bor Bytes))
 closed_places kind.To x = x.places.items ++ whole_world x.open_world x.open_row ∷ []
 closed_places _ x = x.places.items
 
@@ -148,7 +144,7 @@ pub record Counts (line : ℕ) (last : LineKind) (x : Draft) : Type 0 where
   pub few_tokens : length x.tokens < line
 
 -- all parts, where the last line was read
-abbrev pub all_parts : Draft → Parts
+abbrev pub all_parts : Draft → Parts (Bor Bytes)
 all_parts x = record {
   grid = x.grid;
   horizon = x.horizon;

@@ -4,7 +4,7 @@ ghost use Rattle.lab_defs_text.specs.Agreement.{Agrees};
 ghost use Rattle.lab_defs_text.specs.Words.{stands_in};
 ghost use Rattle.lab_defs_text.specs.Drafts.{empty, no_row, unless_twice, first_twice};
 ghost use Rattle.lab_text.specs.Faults.{line_fault};
-ghost use Rattle.lab_text.specs.Drafts.{draft_is, name_list, Closed, whole_row, open_row_of, open_world_of};
+ghost use Rattle.lab_text.specs.Drafts.{draft_is, pieces, Closed, whole_row, open_row_of, open_world_of};
 
 use crate::draft::{Draft, OpenRow, OpenWorld};
 use crate::line_fault::LineFault;
@@ -16,7 +16,7 @@ use std::alloc::{AllocError, Global};
 use std::mem;
 
 /// The draft before the first line.
-pub fn new_draft(alloc: Global) -> Result<Draft, NoMemory>
+pub fn new_draft<'a>(alloc: Global) -> Result<Draft<'a>, NoMemory>
     ensures empty { IfOk result (λ x. draft_is x ≡ empty) }
     ensures names { IfOk result (λ x. x.names ≡ []) }
     ensures tokens { IfOk result (λ x. x.tokens ≡ []) }
@@ -31,25 +31,25 @@ pub fn new_draft(alloc: Global) -> Result<Draft, NoMemory>
         places: Vec::new(alloc),
         open_world: empty_world(alloc, 0),
         open_row: no_row(alloc),
-        root: String::new(alloc),
+        root: "",
         root_line: 0,
     })
 }
 
 // No row.
-fn no_row(alloc: Global) -> OpenRow
+fn no_row<'a>(alloc: Global) -> OpenRow<'a>
     ensures { open_row_of result ≡ no_row }
 {
     OpenRow {
         line: 0,
-        first: String::new(alloc),
-        second: String::new(alloc),
+        first: "",
+        second: "",
         outcomes: Vec::new(alloc),
     }
 }
 
 /// A world that begins at a line; line 0 stands for none.
-pub fn empty_world(alloc: Global, line: u32) -> OpenWorld
+pub fn empty_world<'a>(alloc: Global, line: u32) -> OpenWorld<'a>
     ensures { open_world_of [] result ≡ record { name = []; line = line; one = []; two = []; rows = [] } }
 {
     OpenWorld {
@@ -61,8 +61,8 @@ pub fn empty_world(alloc: Global, line: u32) -> OpenWorld
 }
 
 /// A row whose outcomes were read.
-pub fn whole_row(row: OpenRow) -> PartRow
-    ensures { result ≡ whole_row row }
+pub fn whole_row<'a>(row: OpenRow<'a>) -> PartRow<&'a str>
+    ensures { result ≡ whole_row row.entry }
 {
     PartRow {
         line: row.line,
@@ -73,8 +73,8 @@ pub fn whole_row(row: OpenRow) -> PartRow
 }
 
 // A world whose rows were read.
-fn whole_world(world: OpenWorld) -> PartPlace
-    ensures { result ≡ PartPlace.World world.line world.one.items world.two.items world.rows.items }
+fn whole_world<'a>(world: OpenWorld<'a>) -> PartPlace<&'a str>
+    ensures { result ≡ PartPlace.World world.entry.line world.entry.one.items world.entry.two.items world.entry.rows.items }
 {
     PartPlace::World {
         line: world.line,
@@ -85,7 +85,7 @@ fn whole_world(world: OpenWorld) -> PartPlace
 }
 
 /// Puts the last row into its world and the last world among the places, behind the line of an outcome.
-pub fn close(alloc: Global, draft: &mut Draft, last: LineKind) -> Result<(), AllocError>
+pub fn close(alloc: Global, draft: &mut Draft<'_>, last: LineKind) -> Result<(), AllocError>
     ensures { OnOk result (Closed last draft.old draft.new) }
 {
     if last == LineKind::To {
@@ -111,9 +111,9 @@ pub fn add_name(names: &mut NameTable, name: &str) -> Result<(), LineFault>
 
 /// The first place of a name that stands before it, where the first name has place 2; 0 where there is none. The names of a
 /// short list are compared in pairs, those of a longer one put into a table.
-pub fn twice_place(alloc: Global, names: &[String]) -> Result<u32, NoMemory>
+pub fn twice_place(alloc: Global, names: &[&str]) -> Result<u32, NoMemory>
     requires { length names.now + 1 < 2 ^ 32 }
-    ensures { IfOk result (λ place. place ≡ first_twice 2 [] (name_list names.now)) }
+    ensures { IfOk result (λ place. place ≡ first_twice 2 [] (pieces names.now)) }
 {
     if names.len() <= 16 {
         return Ok(twice_in_pairs(names));
@@ -121,25 +121,25 @@ pub fn twice_place(alloc: Global, names: &[String]) -> Result<u32, NoMemory>
     twice_in_table(alloc, names)
 }
 
-fn twice_in_pairs(names: &[String]) -> u32
+fn twice_in_pairs(names: &[&str]) -> u32
     requires { length names.now + 1 < 2 ^ 32 }
-    ensures { result ≡ first_twice 2 [] (name_list names.now) }
+    ensures { result ≡ first_twice 2 [] (pieces names.now) }
 {
     for i in 0..names.len() {
-        if place_of_name(&names[..i], names[i].as_str()).is_some() {
+        if place_of_name(&names[..i], names[i]).is_some() {
             return i as u32 + 2;
         }
     }
     0
 }
 
-fn twice_in_table(alloc: Global, names: &[String]) -> Result<u32, NoMemory>
+fn twice_in_table(alloc: Global, names: &[&str]) -> Result<u32, NoMemory>
     requires { length names.now + 1 < 2 ^ 32 }
-    ensures { IfOk result (λ place. place ≡ first_twice 2 [] (name_list names.now)) }
+    ensures { IfOk result (λ place. place ≡ first_twice 2 [] (pieces names.now)) }
 {
     let mut table = NameTable::new(alloc)?;
     for i in 0..names.len() {
-        match table.add(names[i].as_str()) {
+        match table.add(names[i]) {
             Ok(_) => {}
             Err(TableFault::Twice { .. }) => return Ok(i as u32 + 2),
             Err(TableFault::Memory) => return Err(NoMemory),

@@ -15,7 +15,7 @@ use lab_world::Recall;
 
 /// The line `fosg 1`.
 pub fn head_line(
-    draft: &mut Draft,
+    draft: &mut Draft<'_>,
     last: LineKind,
     line: u32,
     rest: &[&[u8]],
@@ -32,7 +32,7 @@ pub fn head_line(
 
 /// The line of the grid.
 pub fn grid_line(
-    draft: &mut Draft,
+    draft: &mut Draft<'_>,
     last: LineKind,
     line: u32,
     rest: &[&[u8]],
@@ -47,7 +47,7 @@ pub fn grid_line(
 
 /// The line of the horizon.
 pub fn horizon_line(
-    draft: &mut Draft,
+    draft: &mut Draft<'_>,
     last: LineKind,
     line: u32,
     rest: &[&[u8]],
@@ -62,7 +62,7 @@ pub fn horizon_line(
 
 /// The line of the kind of memory.
 pub fn memory_line(
-    draft: &mut Draft,
+    draft: &mut Draft<'_>,
     last: LineKind,
     line: u32,
     rest: &[&[u8]],
@@ -90,7 +90,7 @@ fn recall_in(word: &[u8], place: u32) -> Result<Recall, LineFault>
 
 /// The line of a token.
 pub fn token_line(
-    draft: &mut Draft,
+    draft: &mut Draft<'_>,
     last: LineKind,
     line: u32,
     rest: &[&[u8]],
@@ -108,7 +108,7 @@ pub fn token_line(
 
 /// The line `done`.
 pub fn done_line(
-    draft: &mut Draft,
+    draft: &mut Draft<'_>,
     last: LineKind,
     line: u32,
     rest: &[&[u8]],

@@ -5,7 +5,7 @@ ghost use Rattle.lab_defs_text.specs.Faults.{lexical, bad_space_at};
 ghost use Rattle.lab_defs_text.specs.Words.{words as words_of, first_empty};
 ghost use Rattle.lab_defs_text.specs.Reading.{no_words, one_word, two_words, five_words, name_at, names_at, whole_at, number_at, payoff_at};
 ghost use Rattle.lab_text.specs.Faults.{line_fault};
-ghost use Rattle.lab_text.specs.Drafts.{pieces, name_list};
+ghost use Rattle.lab_text.specs.Drafts.{pieces};
 
 use crate::line_fault::LineFault;
 use lab_lex::{name, whole, words};
@@ -97,15 +97,14 @@ pub fn name_in(word: &[u8], place: u32) -> Result<&str, LineFault>
 }
 
 /// The names behind the first word.
-pub fn names_in(alloc: Global, rest: &[&[u8]]) -> Result<Vec<String>, LineFault>
+pub fn names_in<'a>(alloc: Global, rest: &[&'a [u8]]) -> Result<Vec<&'a str>, LineFault>
     requires { length rest.now + 1 < 2 ^ 32 }
-    ensures names { Agrees (λ v. name_list v.items) line_fault result (names_at 2 (pieces rest.now)) }
+    ensures names { Agrees (λ v. pieces v.items) line_fault result (names_at 2 (pieces rest.now)) }
     ensures count { IfOk result (λ v. length v.items ≡ length rest.now) }
 {
     let mut found = Vec::with_capacity(alloc, rest.len())?;
     for i in 0..rest.len() {
-        let name = name_in(rest[i], i as u32 + 2)?;
-        found.push(String::from_str(alloc, name)?)?;
+        found.push(name_in(rest[i], i as u32 + 2)?)?;
     }
     Ok(found)
 }

@@ -19,7 +19,7 @@ use std::alloc::Global;
 pub fn take_line<'a>(
     alloc: Global,
     words: &mut Vec<&'a [u8]>,
-    draft: &mut Draft,
+    draft: &mut Draft<'a>,
     last: LineKind,
     line: u32,
     bytes: &'a [u8],
@@ -41,13 +41,13 @@ pub fn take_line<'a>(
 }
 
 // Reads the words behind the first one of a line of a kind.
-fn rest_line(
+fn rest_line<'a>(
     alloc: Global,
-    draft: &mut Draft,
+    draft: &mut Draft<'a>,
     last: LineKind,
     line: u32,
     kind: LineKind,
-    rest: &[&[u8]],
+    rest: &[&'a [u8]],
 ) -> Result<(), LineFault>
     requires short { length rest.now + 1 < 2 ^ 32 }
     requires counts { Counts line last draft.old }

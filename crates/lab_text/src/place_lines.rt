@@ -16,7 +16,7 @@ use std::alloc::Global;
 /// The line that begins a world.
 pub fn world_line(
     alloc: Global,
-    draft: &mut Draft,
+    draft: &mut Draft<'_>,
     last: LineKind,
     line: u32,
     rest: &[&[u8]],
@@ -39,7 +39,7 @@ pub fn world_line(
 /// The line of an end.
 pub fn end_line(
     alloc: Global,
-    draft: &mut Draft,
+    draft: &mut Draft<'_>,
     last: LineKind,
     line: u32,
     rest: &[&[u8]],
@@ -61,12 +61,12 @@ pub fn end_line(
 }
 
 /// The line of the root.
-pub fn root_line(
+pub fn root_line<'a>(
     alloc: Global,
-    draft: &mut Draft,
+    draft: &mut Draft<'a>,
     last: LineKind,
     line: u32,
-    rest: &[&[u8]],
+    rest: &[&'a [u8]],
 ) -> Result<(), LineFault>
     requires { length draft.old.names ≡ length draft.old.places.items + whole_worlds last }
     ensures line { Agrees (λ _. draft_is draft.new) line_fault result (applied line last draft.old (rest_at root_kind (pieces rest.now))) }
@@ -77,7 +77,7 @@ pub fn root_line(
     let word = only(rest)?;
     let name = name_in(word, 2)?;
     close(alloc, draft, last)?;
-    draft.root = String::from_str(alloc, name)?;
+    draft.root = name;
     draft.root_line = line;
     Ok(())
 }

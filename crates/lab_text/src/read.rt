@@ -30,11 +30,11 @@ pub fn read_game(alloc: Global, bytes: &[u8]) -> Result<Game, TextFault>
     ensures only { (g : GameModel) → IsText bytes.now g → Agrees game_model text_fault result (Ok g) }
 {
     let draft = parts_in(alloc, bytes)?;
-    Ok(Game::assemble(alloc, all_parts(draft))?)
+    Ok(Game::assemble_named(alloc, all_parts(draft))?)
 }
 
 // The parts that the lines of a text declare, or the first fault.
-fn parts_in(alloc: Global, bytes: &[u8]) -> Result<Draft, TextFault>
+fn parts_in(alloc: Global, bytes: &[u8]) -> Result<Draft<'_>, TextFault>
     requires { length bytes.now < 2 ^ 32 }
     ensures parts { Agrees draft_is text_fault result (parts_of bytes.now) }
     ensures named { IfOk result (λ x. length x.names ≡ length x.places.items) }
@@ -45,7 +45,7 @@ fn parts_in(alloc: Global, bytes: &[u8]) -> Result<Draft, TextFault>
 }
 
 // Adds to an empty draft what the lines of a text declare.
-fn read_lines(alloc: Global, draft: &mut Draft, bytes: &[u8]) -> Result<(), TextFault>
+fn read_lines<'a>(alloc: Global, draft: &mut Draft<'a>, bytes: &'a [u8]) -> Result<(), TextFault>
     requires short { length bytes.now < 2 ^ 32 }
     requires empty { draft_is draft.old ≡ empty }
     requires counts { Counts 1 LineKind.Start draft.old }
@@ -89,8 +89,8 @@ fn on_line(line: u32, fault: LineFault) -> TextFault
 }
 
 // All parts, where the last line was read.
-fn all_parts(draft: Draft) -> Parts
-    ensures { result ≡ all_parts draft }
+fn all_parts<'a>(draft: Draft<'a>) -> Parts<&'a str>
+    ensures { result ≡ all_parts draft.entry }
 {
     Parts {
         grid: draft.grid,

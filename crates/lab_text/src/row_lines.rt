@@ -3,7 +3,7 @@ ghost use Rattle.std.specs.Prelude.{◌≡◌, ◌+◌, ◌<◌, ◌^◌, length
 ghost use Rattle.lab_defs_text.specs.Agreement.{Agrees};
 ghost use Rattle.lab_defs_text.specs.Reading.{rest_at, one_kind, two_kind, row_kind, to_kind};
 ghost use Rattle.lab_text.specs.Faults.{line_fault};
-ghost use Rattle.lab_text.specs.Drafts.{draft_is, applied, pieces, name_list, actions_at, KeepsNames};
+ghost use Rattle.lab_text.specs.Drafts.{draft_is, applied, pieces, actions_at, KeepsNames};
 
 use crate::draft::{Draft, OpenRow};
 use crate::draft_steps::{twice_place, whole_row};
@@ -15,12 +15,12 @@ use std::alloc::Global;
 use std::mem;
 
 /// The line of seat 1's actions.
-pub fn one_line(
+pub fn one_line<'a>(
     alloc: Global,
-    draft: &mut Draft,
+    draft: &mut Draft<'a>,
     last: LineKind,
     line: u32,
-    rest: &[&[u8]],
+    rest: &[&'a [u8]],
 ) -> Result<(), LineFault>
     requires { length rest.now + 1 < 2 ^ 32 }
     ensures line { Agrees (λ _. draft_is draft.new) line_fault result (applied line last draft.old (rest_at one_kind (pieces rest.now))) }
@@ -31,12 +31,12 @@ pub fn one_line(
 }
 
 /// The line of seat 2's actions.
-pub fn two_line(
+pub fn two_line<'a>(
     alloc: Global,
-    draft: &mut Draft,
+    draft: &mut Draft<'a>,
     last: LineKind,
     line: u32,
-    rest: &[&[u8]],
+    rest: &[&'a [u8]],
 ) -> Result<(), LineFault>
     requires { length rest.now + 1 < 2 ^ 32 }
     ensures line { Agrees (λ _. draft_is draft.new) line_fault result (applied line last draft.old (rest_at two_kind (pieces rest.now))) }
@@ -47,9 +47,9 @@ pub fn two_line(
 }
 
 // The names of actions behind the first word, each of which is new.
-fn actions_in(alloc: Global, rest: &[&[u8]]) -> Result<Vec<String>, LineFault>
+fn actions_in<'a>(alloc: Global, rest: &[&'a [u8]]) -> Result<Vec<&'a str>, LineFault>
     requires { length rest.now + 1 < 2 ^ 32 }
-    ensures { Agrees (λ v. name_list v.items) line_fault result (actions_at (pieces rest.now)) }
+    ensures { Agrees (λ v. pieces v.items) line_fault result (actions_at (pieces rest.now)) }
 {
     if rest.is_empty() {
         return Err(LineFault::BadWord { place: 2 });
@@ -63,23 +63,21 @@ fn actions_in(alloc: Global, rest: &[&[u8]]) -> Result<Vec<String>, LineFault>
 }
 
 /// The line that begins a row.
-pub fn row_line(
+pub fn row_line<'a>(
     alloc: Global,
-    draft: &mut Draft,
+    draft: &mut Draft<'a>,
     last: LineKind,
     line: u32,
-    rest: &[&[u8]],
+    rest: &[&'a [u8]],
 ) -> Result<(), LineFault>
     ensures line { Agrees (λ _. draft_is draft.new) line_fault result (applied line last draft.old (rest_at row_kind (pieces rest.now))) }
     ensures names { KeepsNames draft.old draft.new }
 {
     let (first, second) = two(rest)?;
-    let first = name_in(first, 2)?;
-    let second = name_in(second, 3)?;
     let row = OpenRow {
         line,
-        first: String::from_str(alloc, first)?,
-        second: String::from_str(alloc, second)?,
+        first: name_in(first, 2)?,
+        second: name_in(second, 3)?,
         outcomes: Vec::new(alloc),
     };
     let whole = mem::replace(&mut draft.open_row, row);
@@ -90,29 +88,25 @@ pub fn row_line(
 }
 
 /// The line of an outcome.
-pub fn outcome_line(
+pub fn outcome_line<'a>(
     alloc: Global,
-    draft: &mut Draft,
+    draft: &mut Draft<'a>,
     last: LineKind,
     line: u32,
-    rest: &[&[u8]],
+    rest: &[&'a [u8]],
 ) -> Result<(), LineFault>
     ensures line { Agrees (λ _. draft_is draft.new) line_fault result (applied line last draft.old (rest_at to_kind (pieces rest.now))) }
     ensures names { KeepsNames draft.old draft.new }
 {
     let (weight, next, own1, own2, public) = five(rest)?;
     let weight = number_in(weight, 2, 1, 1_048_576)?;
-    let next = name_in(next, 3)?;
-    let own1 = name_in(own1, 4)?;
-    let own2 = name_in(own2, 5)?;
-    let public = name_in(public, 6)?;
     let outcome = PartOutcome {
         line,
         weight,
-        next: String::from_str(alloc, next)?,
-        own1: String::from_str(alloc, own1)?,
-        own2: String::from_str(alloc, own2)?,
-        public: String::from_str(alloc, public)?,
+        next: name_in(next, 3)?,
+        own1: name_in(own1, 4)?,
+        own2: name_in(own2, 5)?,
+        public: name_in(public, 6)?,
     };
     draft.open_row.outcomes.push(outcome)?;
     Ok(())

@@ -1,7 +1,9 @@
 -- What parts that are in order give for the game that is made of them.
 use Rattle.std.proofs.Common.{◌≡◌, ℕ, Bool, true, false, cond, string_bytes, Option, List, [], ◌∷◌, length, map, Result, Ok, Err, refl, sym, ap, ◌∙◌, arith}
-use Rattle.std.specs.Prelude.{◌&&◌, nat_lt}
+use Rattle.std.specs.Prelude.{◌&&◌, nat_lt, String}
 use Rattle.std.specs.List.{list_all}
+use Rattle.std.specs.Borrow.{Bor}
+use Rattle.std.specs.Global.{Global}
 use Rattle.std.specs.Cmp.Lexicographic.{pointwise}
 use Rattle.std.specs.Str.{bytes_eq}
 use Rattle.std.proofs.lemmas.Bool.{and_parts, and_from}
@@ -21,13 +23,14 @@ use Rattle.lab_defs_text.proofs.StepLemmas.{bind_ok, ok_carries}
 use Rattle.lab_defs_text.proofs.SplitLemmas.{bytes_eq_refl}
 use Rattle.lab_defs_text.proofs.SoFarLemmas.{apart_names, IsDraft}
 use Rattle.lab_defs_text.proofs.WholeLemmas.{game_is}
+use Rattle.lab_lex.specs.Names.{name_bytes}
 use Rattle.lab_world.specs.declared.parts.PartPlace.{PartPlace}
 use Rattle.lab_world.specs.declared.parts.PartPlace.TheVariants as part
 use Rattle.lab_world.specs.declared.parts.Parts.{Parts}
 use Rattle.lab_world.specs.declared.place.Place.{Place}
 use Rattle.lab_world.specs.declared.place.Recall.{Recall}
 use Rattle.lab_world.specs.declared.place.WorldId.{WorldId}
-use Rattle.lab_world.specs.Drafts.{part_place_of, part_places_of, draft_of}
+use Rattle.lab_world.specs.Drafts.{part_place_by, part_place_of, part_places_by, part_places_of, draft_of, named_draft_of}
 use Rattle.lab_world.specs.Models.{place_model, parts_model}
 use Rattle.lab_world.specs.Wholes.{action_names, place_fits, is_whole}
 use Rattle.lab_world.specs.Stages.{known_apart, Rooted, rooted}
@@ -58,13 +61,13 @@ knowns_apart ns ts (p ∷ ps) ks f e =
 -- ---- names of places
 
 -- places whose names do not matter
-pub record Named (ns ts names : List Bytes) (ps : List PartPlace) : Type 0 where
+pub record Named (ns ts names : List Bytes) (ps : List (PartPlace (Bor Bytes))) : Type 0 where
   pub names_are : map draft.place_name (part_places_of names ps) ≡ names
   pub known_same : each (known_place ns ts) (part_places_of names ps) ≡ each (known_place ns ts) (map (part_place_of []) ps)
   pub ok_same : list_all part_ok (part_places_of names ps) ≡ list_all part_ok (map (part_place_of []) ps)
 
 -- one place more
-named_more : (ns ts : List Bytes) (n : Bytes) (p : PartPlace) (names : List Bytes) (ps : List PartPlace) → draft.place_name (part_place_of n p) ≡ n → known_place ns ts (part_place_of n p) ≡ known_place ns ts (part_place_of [] p)
+named_more : (ns ts : List Bytes) (n : Bytes) (p : PartPlace (Bor Bytes)) (names : List Bytes) (ps : List (PartPlace (Bor Bytes))) → draft.place_name (part_place_of n p) ≡ n → known_place ns ts (part_place_of n p) ≡ known_place ns ts (part_place_of [] p)
     → part_ok (part_place_of n p) ≡ part_ok (part_place_of [] p) → Named ns ts names ps → Named ns ts (n ∷ names) (p ∷ ps)
 named_more ns ts n p names ps a b c r = record {
   names_are = rw (a, r.names_are) refl;
@@ -73,12 +76,50 @@ named_more ns ts n p names ps a b c r = record {
 }
 
 -- places with as many names
-pub named : (ns ts names : List Bytes) (ps : List PartPlace) → length names ≡ length ps → Named ns ts names ps
+pub named : (ns ts names : List Bytes) (ps : List (PartPlace (Bor Bytes))) → length names ≡ length ps → Named ns ts names ps
 named ns ts [] [] e = record { names_are = refl; known_same = refl; ok_same = refl }
 named ns ts [] (p ∷ ps) e = absurd (omega (arith, e))
 named ns ts (n ∷ names) [] e = absurd (omega (arith, e))
 named ns ts (n ∷ names) (part.World line one two rows ∷ ps) e = named_more ns ts n (part.World line one two rows) names ps refl refl refl (named ns ts names ps (omega (arith, e)))
 named ns ts (n ∷ names) (part.End line z ∷ ps) e = named_more ns ts n (part.End line z) names ps refl refl refl (named ns ts names ps (omega (arith, e)))
+
+-- ---- names in a text
+
+-- a place by another name
+abbrev renamed : Bytes → draft.PartPlace → draft.PartPlace
+renamed n (draft.part_world w) = draft.part_world (record w { name = n })
+renamed n (draft.part_end m line z) = draft.part_end n line z
+
+abbrev all_renamed : List Bytes → List draft.PartPlace → List draft.PartPlace
+all_renamed (n ∷ ns) (p ∷ ps) = renamed n p ∷ all_renamed ns ps
+all_renamed _ _ = []
+
+-- places with their names are places by other names
+places_renamed : {T : Type 0} (text : T → Bytes) (ns : List Bytes) (ps : List (PartPlace T)) → part_places_by text ns ps ≡ all_renamed ns (map (part_place_by text []) ps)
+places_renamed text [] [] = refl
+places_renamed text [] (p ∷ ps) = refl
+places_renamed text (n ∷ ns) [] = refl
+places_renamed text (n ∷ ns) (part.World line one two rows ∷ ps) = ap (λ (xs : List draft.PartPlace). part_place_by text n (part.World line one two rows) ∷ xs) (places_renamed text ns ps)
+places_renamed text (n ∷ ns) (part.End line z ∷ ps) = ap (λ (xs : List draft.PartPlace). part_place_by text n (part.End line z) ∷ xs) (places_renamed text ns ps)
+
+-- parts whose names stand in others
+abbrev pub with_named : Parts (String Global) → List (PartPlace (Bor Bytes)) → Bor Bytes → Parts (Bor Bytes)
+with_named p ps root = record { grid = p.grid; horizon = p.horizon; recall = p.recall; tokens = p.tokens; names = p.names; places = ps; root = root; root_line = p.root_line }
+
+-- what holds of such parts
+pub record NamedParts (p : Parts (String Global)) (q : Parts (Bor Bytes)) : Type 0 where
+  pub draft : named_draft_of q ≡ draft_of p
+  pub count : length q.places ≡ length p.places
+
+pub parts_named : (p : Parts (String Global)) (ps : List (PartPlace (Bor Bytes))) (root : Bor Bytes) → map (part_place_of []) ps ≡ map (part_place_by string_bytes []) p.places → root.now ≡ string_bytes p.root
+    → NamedParts p (with_named p ps root)
+parts_named p ps root a b =
+    let places : part_places_of p.names ps ≡ part_places_by string_bytes p.names p.places =
+    places_renamed name_bytes p.names ps ∙ ap (all_renamed p.names) a ∙ sym (places_renamed string_bytes p.names p.places) in
+    record {
+      draft = cc (places, b);
+      count = sym (length-map ps (part_place_of [])) ∙ ap length a ∙ length-map p.places (part_place_by string_bytes []);
+    }
 
 -- ---- the game
 
@@ -113,28 +154,28 @@ assembled_from d names ks =
     (λ places. through_test (is_world_at r places) (record { places = places; root = r }) (no_root d.root_line) (game_with d names)))))
 
 -- parts are assembled to their places and their root, with what else they declare
-assembled_is : (p : Parts) → length p.names ≡ length p.places → assembled (draft_of p) ≡ (rooted p.names p.tokens p.root_line (string_bytes p.root) (map (part_place_of []) p.places) >>= game_with (draft_of p) p.names)
+assembled_is : (p : Parts (Bor Bytes)) → length p.names ≡ length p.places → assembled (named_draft_of p) ≡ (rooted p.names p.tokens p.root_line (name_bytes p.root) (map (part_place_of []) p.places) >>= game_with (named_draft_of p) p.names)
 assembled_is p e =
-    let d = draft_of p in
+    let d = named_draft_of p in
     let n = named p.names p.tokens p.names p.places e in
     let known_same = ap (λ (ns : List Bytes). each (known_place ns p.tokens) d.places) n.names_are ∙ n.known_same in
     assembled_from d (map draft.place_name d.places) (each (known_place (map draft.place_name d.places) p.tokens) d.places)
     ∙ ap (λ (ns : List Bytes). game_from d ns (each (known_place (map draft.place_name d.places) p.tokens) d.places)) n.names_are ∙ ap (game_from d p.names) known_same
 
--- the places and the root of parts, by the same root and the same places
-pub rooted_same : (p : Parts) (root : Bytes) (ps : List PartPlace) → string_bytes p.root ≡ root → p.places ≡ ps
-    → rooted p.names p.tokens p.root_line (string_bytes p.root) (map (part_place_of []) p.places) ≡ rooted p.names p.tokens p.root_line root (map (part_place_of []) ps)
-rooted_same p root ps a b = ap (λ (n : Bytes). rooted p.names p.tokens p.root_line n (map (part_place_of []) p.places)) a ∙ ap (λ (xs : List PartPlace). rooted p.names p.tokens p.root_line root (map (part_place_of []) xs)) b
+-- the places and the root of parts, by the same places
+pub rooted_same : (p : Parts (Bor Bytes)) (ps : List (PartPlace (Bor Bytes))) → p.places ≡ ps
+    → rooted p.names p.tokens p.root_line (name_bytes p.root) (map (part_place_of []) p.places) ≡ rooted p.names p.tokens p.root_line (name_bytes p.root) (map (part_place_of []) ps)
+rooted_same p ps a = ap (λ (xs : List (PartPlace (Bor Bytes))). rooted p.names p.tokens p.root_line (name_bytes p.root) (map (part_place_of []) xs)) a
 
 -- the game that parts are assembled to
-pub assembled_game : (p : Parts) (r : Rooted) (actions : List Bytes) (places : List Place) → length p.names ≡ length p.places → rooted p.names p.tokens p.root_line (string_bytes p.root) (map (part_place_of []) p.places) ≡ Ok r
-    → map (place_model actions) places ≡ r.places → assembled (draft_of p) ≡ Ok (parts_model p.grid p.horizon p.recall p.tokens p.names actions places (record { 0 = r.root }))
+pub assembled_game : (p : Parts (Bor Bytes)) (r : Rooted) (actions : List Bytes) (places : List Place) → length p.names ≡ length p.places → rooted p.names p.tokens p.root_line (name_bytes p.root) (map (part_place_of []) p.places) ≡ Ok r
+    → map (place_model actions) places ≡ r.places → assembled (named_draft_of p) ≡ Ok (parts_model p.grid p.horizon p.recall p.tokens p.names actions places (record { 0 = r.root }))
 assembled_game p r actions places e made same =
-    assembled_is p e ∙ ap (λ q. q >>= game_with (draft_of p) p.names) made ∙ ap (λ (ms : List model.Place). game_with (draft_of p) p.names (record { places = ms; root = r.root })) (sym same)
+    assembled_is p e ∙ ap (λ q. q >>= game_with (named_draft_of p) p.names) made ∙ ap (λ (ms : List model.Place). game_with (named_draft_of p) p.names (record { places = ms; root = r.root })) (sym same)
 
 -- the fault of parts that make no game
-pub assembled_fault : (p : Parts) (o : Option TextFault) → length p.names ≡ length p.places → FaultAgrees o (rooted p.names p.tokens p.root_line (string_bytes p.root) (map (part_place_of []) p.places)) → FaultAgrees o (assembled (draft_of p))
-assembled_fault p o e h = fault_first o (rooted p.names p.tokens p.root_line (string_bytes p.root) (map (part_place_of []) p.places)) (game_with (draft_of p) p.names) (assembled (draft_of p)) h (sym (assembled_is p e))
+pub assembled_fault : (p : Parts (Bor Bytes)) (o : Option TextFault) → length p.names ≡ length p.places → FaultAgrees o (rooted p.names p.tokens p.root_line (name_bytes p.root) (map (part_place_of []) p.places)) → FaultAgrees o (assembled (named_draft_of p))
+assembled_fault p o e h = fault_first o (rooted p.names p.tokens p.root_line (name_bytes p.root) (map (part_place_of []) p.places)) (game_with (named_draft_of p) p.names) (assembled (named_draft_of p)) h (sym (assembled_is p e))
 
 -- ---- what is made is whole
 

@@ -1,8 +1,11 @@
 -- The parts of a game as the definitions have them, and the faults of parts.
-use Rattle.std.specs.Prelude.{List, [], ◌∷◌, map, string_bytes, Option, Some, None}
+use Rattle.std.specs.Prelude.{List, [], ◌∷◌, map, String, string_bytes, Option, Some, None}
+use Rattle.std.specs.Borrow.{Bor}
+use Rattle.std.specs.Global.{Global}
 use Rattle.lab_defs_text.specs.Words.{Bytes}
 use Rattle.lab_defs_text.specs.Drafts as draft
 use Rattle.lab_defs_text.specs.Faults as fault
+use Rattle.lab_lex.specs.Names.{name_bytes}
 use Rattle.lab_world.specs.declared.parts.PartOutcome.{PartOutcome}
 use Rattle.lab_world.specs.declared.parts.PartRow.{PartRow}
 use Rattle.lab_world.specs.declared.parts.PartPlace.{PartPlace}
@@ -12,42 +15,56 @@ use Rattle.lab_world.specs.declared.parts.AssembleFault.{AssembleFault}
 use Rattle.lab_world.specs.declared.parts.AssembleFault.TheVariants as assemble
 use Rattle.lab_world.specs.Models.{recall_model}
 
-abbrev pub part_outcome_of : PartOutcome → draft.PartOutcome
-part_outcome_of o = record {
-  line = o.line;
-  weight = o.weight;
-  next = string_bytes o.next;
-  own1 = string_bytes o.own1;
-  own2 = string_bytes o.own2;
-  public = string_bytes o.public;
-}
+-- with the bytes of a name
+abbrev pub part_outcome_by : {T : Type 0} → (T → Bytes) → PartOutcome T → draft.PartOutcome
+part_outcome_by text o = record { line = o.line; weight = o.weight; next = text o.next; own1 = text o.own1; own2 = text o.own2; public = text o.public }
 
-abbrev pub part_row_of : PartRow → draft.PartRow
-part_row_of r = record { line = r.line; first = string_bytes r.first; second = string_bytes r.second; outcomes = map part_outcome_of r.outcomes }
+abbrev pub part_row_by : {T : Type 0} → (T → Bytes) → PartRow T → draft.PartRow
+part_row_by text r = record { line = r.line; first = text r.first; second = text r.second; outcomes = map (part_outcome_by text) r.outcomes }
 
-abbrev pub part_place_of : Bytes → PartPlace → draft.PartPlace
-part_place_of name (place.World line one two rows) =
-    draft.part_world (record { name = name; line = line; one = map string_bytes one; two = map string_bytes two; rows = map part_row_of rows })
-part_place_of name (place.End line payoff) = draft.part_end name line payoff
+abbrev pub part_place_by : {T : Type 0} → (T → Bytes) → Bytes → PartPlace T → draft.PartPlace
+part_place_by text name (place.World line one two rows) =
+    draft.part_world (record { name = name; line = line; one = map text one; two = map text two; rows = map (part_row_by text) rows })
+part_place_by text name (place.End line payoff) = draft.part_end name line payoff
 
 -- each place with its name
-abbrev pub part_places_of : List Bytes → List PartPlace → List draft.PartPlace
-part_places_of (n ∷ ns) (p ∷ ps) = part_place_of n p ∷ part_places_of ns ps
-part_places_of _ _ = []
+abbrev pub part_places_by : {T : Type 0} → (T → Bytes) → List Bytes → List (PartPlace T) → List draft.PartPlace
+part_places_by text (n ∷ ns) (p ∷ ps) = part_place_by text n p ∷ part_places_by text ns ps
+part_places_by text _ _ = []
 
 -- the parts that the definitions have
-abbrev pub draft_of : Parts → draft.Draft
-draft_of p = record {
+abbrev pub draft_by : {T : Type 0} → (T → Bytes) → Parts T → draft.Draft
+draft_by text p = record {
   grid = p.grid;
   horizon = p.horizon;
   recall = recall_model p.recall;
   tokens = p.tokens;
-  places = part_places_of p.names p.places;
+  places = part_places_by text p.names p.places;
   open_world = draft.no_world;
   open_row = draft.no_row;
-  root = string_bytes p.root;
+  root = text p.root;
   root_line = p.root_line;
 }
+
+abbrev pub draft_of : Parts (String Global) → draft.Draft
+draft_of = draft_by string_bytes
+
+-- ---- names that stand in a text
+
+abbrev pub part_outcome_of : PartOutcome (Bor Bytes) → draft.PartOutcome
+part_outcome_of = part_outcome_by name_bytes
+
+abbrev pub part_row_of : PartRow (Bor Bytes) → draft.PartRow
+part_row_of = part_row_by name_bytes
+
+abbrev pub part_place_of : Bytes → PartPlace (Bor Bytes) → draft.PartPlace
+part_place_of = part_place_by name_bytes
+
+abbrev pub part_places_of : List Bytes → List (PartPlace (Bor Bytes)) → List draft.PartPlace
+part_places_of = part_places_by name_bytes
+
+abbrev pub named_draft_of : Parts (Bor Bytes) → draft.Draft
+named_draft_of = draft_by name_bytes
 
 -- the fault of a text that a fault of its parts is
 abbrev pub assemble_fault : AssembleFault → Option fault.TextFault

@@ -1,5 +1,5 @@
 -- Places on the way from parts to a game, as the definitions have them.
-use Rattle.std.specs.Prelude.{ℕ, List, [], ◌∷◌, Bool, true, ◌==◌, ◌&&◌, ◌++◌, map, string_bytes, Result, Ok, Err, if◌then◌else◌}
+use Rattle.std.specs.Prelude.{ℕ, List, [], ◌∷◌, Bool, true, ◌==◌, ◌&&◌, ◌++◌, map, Result, Ok, Err, if◌then◌else◌}
 use Rattle.std.specs.List.{list_all}
 use Rattle.lab_defs_text.specs.Words.{Bytes, apart_after}
 use Rattle.lab_defs_text.specs.Games as model
@@ -8,6 +8,7 @@ use Rattle.lab_defs_text.specs.Drafts as draft
 use Rattle.lab_defs_text.specs.Steps.{◌>>=◌, each}
 use Rattle.lab_defs_text.specs.Assembly as assembly
 use Rattle.lab_defs_game.specs.Chance.{row_total}
+use Rattle.lab_lex.specs.Names.{name_bytes}
 use Rattle.lab_world.specs.declared.place.Outcome.{Outcome}
 use Rattle.lab_world.specs.declared.place.Row.{Row}
 use Rattle.lab_world.specs.declared.stages.KnownRow.{KnownRow}
@@ -25,10 +26,10 @@ abbrev pub outcomes_model : List Outcome → List model.Outcome
 outcomes_model os = map outcome_model os
 
 abbrev pub known_row_of : KnownRow → assembly.KnownRow
-known_row_of r = record { line = r.line; first = string_bytes r.first; second = string_bytes r.second; outcomes = outcomes_model r.outcomes }
+known_row_of r = record { line = r.line; first = name_bytes r.first; second = name_bytes r.second; outcomes = outcomes_model r.outcomes }
 
 abbrev pub known_place_of : KnownPlace → assembly.KnownPlace
-known_place_of (known.World line one two rows) = assembly.known_world line (map string_bytes one) (map string_bytes two) (map known_row_of rows)
+known_place_of (known.World line one two rows) = assembly.known_world line (map name_bytes one) (map name_bytes two) (map known_row_of rows)
 known_place_of (known.End z) = assembly.known_end z
 
 -- no action of a seat is named twice
@@ -50,11 +51,11 @@ with_row one two before r =
     assembly.action_of one two r >>= λ k. assembly.unless_taken r.line k before >>= λ i. Ok (before ++ record { number = k; outcomes = r.outcomes } ∷ [])
 
 abbrev pub placed_place_of : PlacedPlace → assembly.PlacedPlace
-placed_place_of (placed.World line one two rows) = assembly.placed_world line (map string_bytes one) (map string_bytes two) (placed_rows_of rows)
+placed_place_of (placed.World line one two rows) = assembly.placed_world line (map name_bytes one) (map name_bytes two) (placed_rows_of rows)
 placed_place_of (placed.End z) = assembly.placed_end z
 
 abbrev pub ordered_place_of : OrderedPlace → model.Place
-ordered_place_of (ordered.World one two rows) = model.a_world (record { one = map string_bytes one; two = map string_bytes two; rows = map row_model rows })
+ordered_place_of (ordered.World one two rows) = model.a_world (record { one = map name_bytes one; two = map name_bytes two; rows = map row_model rows })
 ordered_place_of (ordered.End z) = model.an_end z
 
 -- the total of a row is that of its weights

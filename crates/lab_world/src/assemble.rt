@@ -3,10 +3,11 @@ ghost use Rattle.std.specs.Prelude.{◌≡◌, true, length};
 ghost use Rattle.lab_defs_text.specs.Agreement.{Agrees};
 ghost use Rattle.lab_defs_text.specs.Assembly.{assembled};
 ghost use Rattle.lab_defs_text.specs.Parts.{parts_ok};
-ghost use Rattle.lab_world.specs.Drafts.{draft_of, assemble_fault};
+ghost use Rattle.lab_world.specs.Drafts.{draft_of, named_draft_of, assemble_fault};
 ghost use Rattle.lab_world.specs.Games.{game_model};
 
 use super::game::Game;
+use super::named::named_places;
 use super::numbered::{NumberedPlaces, numbered_places};
 use super::parts::{AssembleFault, Parts};
 use super::place::WorldId;
@@ -32,13 +33,45 @@ impl Game {
             root,
             root_line,
         } = parts;
+        let places = named_places(alloc, places.as_slice())?;
+        Game::assemble_named(
+            alloc,
+            Parts {
+                grid,
+                horizon,
+                recall,
+                tokens,
+                names,
+                places: Seq::from_vec(places),
+                root: root.as_str(),
+                root_line,
+            },
+        )
+    }
+
+    /// Likewise of parts whose names stand in a text, so that no name is copied but into the game.
+    pub fn assemble_named(alloc: Global, parts: Parts<&str>) -> Result<Game, AssembleFault>
+        requires named { length parts.names ≡ length parts.places }
+        requires fit { parts_ok (named_draft_of parts) ≡ true }
+        ensures { Agrees game_model assemble_fault result (assembled (named_draft_of parts.entry)) }
+    {
+        let Parts {
+            grid,
+            horizon,
+            recall,
+            tokens,
+            names,
+            places,
+            root,
+            root_line,
+        } = parts;
         let RootedPlaces { places, root } = rooted_places(
             alloc,
             &names,
             &tokens,
             places.into_vec(),
             root_line,
-            root.as_str(),
+            root,
         )?;
         let NumberedPlaces { actions, places } = numbered_places(alloc, places)?;
         Ok(Game {

@@ -20,13 +20,13 @@ use lab_seq::Seq;
 use std::alloc::Global;
 
 /// The places with their outcomes by numbers, or the first name that is not declared.
-pub fn known_places(
+pub fn known_places<'a>(
     alloc: Global,
     names: &NameTable,
     tokens: &NameTable,
-    places: Vec<PartPlace>,
-) -> Result<Vec<KnownPlace>, AssembleFault>
-    ensures { Agrees (λ v. map known_place_of v.items) assemble_fault result (each (known_place_of_parts names.now tokens.now) (map (part_place_of []) places.items)) }
+    places: Vec<PartPlace<&'a str>>,
+) -> Result<Vec<KnownPlace<'a>>, AssembleFault>
+    ensures { Agrees (λ v. map known_place_of v.items) assemble_fault result (each (known_place_of_parts names.now tokens.now) (map (part_place_of []) places.entry.items)) }
 {
     let mut found = Vec::with_capacity(alloc, places.len())?;
     for place in places {
@@ -35,13 +35,13 @@ pub fn known_places(
     Ok(found)
 }
 
-fn known_place(
+fn known_place<'a>(
     alloc: Global,
     names: &NameTable,
     tokens: &NameTable,
-    place: PartPlace,
-) -> Result<KnownPlace, AssembleFault>
-    ensures { Agrees known_place_of assemble_fault result (known_place_of_parts names.now tokens.now (part_place_of [] place)) }
+    place: PartPlace<&'a str>,
+) -> Result<KnownPlace<'a>, AssembleFault>
+    ensures { Agrees known_place_of assemble_fault result (known_place_of_parts names.now tokens.now (part_place_of [] place.entry)) }
 {
     match place {
         PartPlace::World {
@@ -62,13 +62,13 @@ fn known_place(
     }
 }
 
-fn known_rows(
+fn known_rows<'a>(
     alloc: Global,
     names: &NameTable,
     tokens: &NameTable,
-    rows: Vec<PartRow>,
-) -> Result<Vec<KnownRow>, AssembleFault>
-    ensures { Agrees (λ v. map known_row_of v.items) assemble_fault result (each (known_row_of_parts names.now tokens.now) (map part_row_of rows.items)) }
+    rows: Vec<PartRow<&'a str>>,
+) -> Result<Vec<KnownRow<'a>>, AssembleFault>
+    ensures { Agrees (λ v. map known_row_of v.items) assemble_fault result (each (known_row_of_parts names.now tokens.now) (map part_row_of rows.entry.items)) }
 {
     let mut found = Vec::with_capacity(alloc, rows.len())?;
     for row in rows {
@@ -77,21 +77,21 @@ fn known_rows(
     Ok(found)
 }
 
-fn known_row(
+fn known_row<'a>(
     alloc: Global,
     names: &NameTable,
     tokens: &NameTable,
-    row: PartRow,
-) -> Result<KnownRow, AssembleFault>
-    ensures { Agrees known_row_of assemble_fault result (known_row_of_parts names.now tokens.now (part_row_of row)) }
+    row: PartRow<&'a str>,
+) -> Result<KnownRow<'a>, AssembleFault>
+    ensures { Agrees known_row_of assemble_fault result (known_row_of_parts names.now tokens.now (part_row_of row.entry)) }
 {
-    let outcomes = known_outcomes(alloc, names, tokens, row.outcomes.as_slice())?;
     let PartRow {
         line,
         first,
         second,
-        ..
+        outcomes,
     } = row;
+    let outcomes = known_outcomes(alloc, names, tokens, outcomes.into_vec())?;
     Ok(KnownRow {
         line,
         first,
@@ -104,9 +104,9 @@ fn known_outcomes(
     alloc: Global,
     names: &NameTable,
     tokens: &NameTable,
-    outcomes: &[PartOutcome],
+    outcomes: Vec<PartOutcome<&str>>,
 ) -> Result<Vec<Outcome>, AssembleFault>
-    ensures { Agrees (λ v. outcomes_model v.items) assemble_fault result (each (known_outcome_of_parts names.now tokens.now) (map part_outcome_of outcomes.now)) }
+    ensures { Agrees (λ v. outcomes_model v.items) assemble_fault result (each (known_outcome_of_parts names.now tokens.now) (map part_outcome_of outcomes.entry.items)) }
 {
     let mut found = Vec::with_capacity(alloc, outcomes.len())?;
     for outcome in outcomes {
@@ -118,15 +118,15 @@ fn known_outcomes(
 fn known_outcome(
     names: &NameTable,
     tokens: &NameTable,
-    outcome: &PartOutcome,
+    outcome: PartOutcome<&str>,
 ) -> Result<Outcome, AssembleFault>
-    ensures { Agrees outcome_model assemble_fault result (known_outcome_of_parts names.now tokens.now (part_outcome_of outcome.now)) }
+    ensures { Agrees outcome_model assemble_fault result (known_outcome_of_parts names.now tokens.now (part_outcome_of outcome.entry)) }
 {
     let line = outcome.line;
-    let next = number_in(names, line, 3, outcome.next.as_str())?;
-    let own1 = number_in(tokens, line, 4, outcome.own1.as_str())?;
-    let own2 = number_in(tokens, line, 5, outcome.own2.as_str())?;
-    let public = number_in(tokens, line, 6, outcome.public.as_str())?;
+    let next = number_in(names, line, 3, outcome.next)?;
+    let own1 = number_in(tokens, line, 4, outcome.own1)?;
+    let own2 = number_in(tokens, line, 5, outcome.own2)?;
+    let public = number_in(tokens, line, 6, outcome.public)?;
     Ok(Outcome {
         weight: outcome.weight,
         next: WorldId(next),

@@ -5,6 +5,7 @@ mod assemble;
 mod game;
 mod known;
 mod name_list;
+mod named;
 mod number_set;
 mod numbered;
 mod ordered;

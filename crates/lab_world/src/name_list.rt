@@ -1,7 +1,8 @@
 //! Look-up in a list of names, none of which stands twice.
-ghost use Rattle.std.specs.Prelude.{◌≡◌, [], length, map, string_bytes, position, true, IfOk};
+ghost use Rattle.std.specs.Prelude.{◌≡◌, [], length, map, position, true, IfOk};
 ghost use Rattle.std.specs.Str.{bytes_eq};
 ghost use Rattle.lab_defs_text.specs.Words.{apart_after};
+ghost use Rattle.lab_lex.specs.Names.{name_bytes};
 
 use crate::placed::table_of;
 use lab_lex::{NameTable, place_of_name};
@@ -11,25 +12,26 @@ use std::marker::Model;
 /// Names by their places in a list: a list of at most 16 names is walked, a longer one has a table.
 #[derive(Drop)]
 pub struct NameList<'a> {
-    names: &'a [String],
+    names: &'a [&'a str],
     table: Option<NameTable>,
 }
 
 impl<'a> Model for NameList<'a> {
-    ghost use Rattle.std.specs.Prelude.{◌≡◌, ◌≤◌, ℕ, List, length, map, string_bytes, MatchOption};
+    ghost use Rattle.std.specs.Prelude.{◌≡◌, ◌≤◌, ℕ, List, length, map, MatchOption};
+    ghost use Rattle.lab_lex.specs.Names.{name_bytes};
 
     ghost Value = { List (List ℕ) };
 
-    ghost view = { λ l. map string_bytes l.names.now };
+    ghost view = { λ l. map name_bytes l.names.now };
 
-    ghost invariant = { λ l. MatchOption l.table (length l.names.now ≤ 16) (λ t. t ≡ map string_bytes l.names.now) };
+    ghost invariant = { λ l. MatchOption l.table (length l.names.now ≤ 16) (λ t. t ≡ map name_bytes l.names.now) };
 }
 
 impl<'a> NameList<'a> {
     /// Names, none of which stands twice.
-    pub fn new(alloc: Global, names: &'a [String]) -> Result<NameList<'a>, AllocError>
-        requires { apart_after [] (map string_bytes names.now) ≡ true }
-        ensures { IfOk result (λ l. l ≡ map string_bytes names.now) }
+    pub fn new(alloc: Global, names: &'a [&'a str]) -> Result<NameList<'a>, AllocError>
+        requires { apart_after [] (map name_bytes names.now) ≡ true }
+        ensures { IfOk result (λ l. l ≡ map name_bytes names.now) }
     {
         if names.len() <= 16 {
             return Ok(NameList { names, table: None });

@@ -1,7 +1,8 @@
 //! Names of actions to numbers.
-ghost use Rattle.std.specs.Prelude.{◌≡◌, ◌∷◌, ◌<◌, [], length, map, nat_lt, string_bytes, true, IfOk, OnOk};
+ghost use Rattle.std.specs.Prelude.{◌≡◌, ◌∷◌, ◌<◌, [], length, map, nat_lt, true, IfOk, OnOk};
 ghost use Rattle.std.specs.List.{list_all};
 ghost use Rattle.lab_defs_text.specs.Texts.{name_of};
+ghost use Rattle.lab_lex.specs.Names.{name_bytes};
 ghost use Rattle.lab_world.specs.Models.{action_list, row_model, world_model, place_model};
 ghost use Rattle.lab_world.specs.Wholes.{with_new, action_names, place_fits};
 ghost use Rattle.lab_world.specs.Stages.{ordered_place_of, total_fits, totals_fit};
@@ -23,11 +24,11 @@ pub struct NumberedPlaces {
 /// Numbers the names of actions in the order in which they first stand.
 pub fn numbered_places(
     alloc: Global,
-    places: Vec<OrderedPlace>,
+    places: Vec<OrderedPlace<'_>>,
 ) -> Result<NumberedPlaces, AllocError>
     requires { list_all totals_fit places.items ≡ true }
-    ensures places { IfOk result (λ n. map (place_model n.actions) n.places.items ≡ map ordered_place_of places.items) }
-    ensures actions { IfOk result (λ n. n.actions ≡ action_names [] (map ordered_place_of places.items)) }
+    ensures places { IfOk result (λ n. map (place_model n.actions) n.places.items ≡ map ordered_place_of places.entry.items) }
+    ensures actions { IfOk result (λ n. n.actions ≡ action_names [] (map ordered_place_of places.entry.items)) }
     ensures fits { IfOk result (λ n. list_all (place_fits (length n.actions)) n.places.items ≡ true) }
 {
     let Ok(mut actions) = NameTable::new(alloc) else {
@@ -46,11 +47,11 @@ pub fn numbered_places(
 fn numbered_place(
     alloc: Global,
     actions: &mut NameTable,
-    place: OrderedPlace,
+    place: OrderedPlace<'_>,
 ) -> Result<Place, AllocError>
     requires { totals_fit place ≡ true }
-    ensures place { IfOk result (λ p. place_model actions.new p ≡ ordered_place_of place) }
-    ensures actions { OnOk result (actions.new ≡ action_names actions.old (ordered_place_of place ∷ [])) }
+    ensures place { IfOk result (λ p. place_model actions.new p ≡ ordered_place_of place.entry) }
+    ensures actions { OnOk result (actions.new ≡ action_names actions.old (ordered_place_of place.entry ∷ [])) }
     ensures fits { IfOk result (λ p. place_fits (length actions.new) p ≡ true) }
 {
     match place {
@@ -65,13 +66,13 @@ fn numbered_place(
 fn numbered_world(
     alloc: Global,
     actions: &mut NameTable,
-    one: &[String],
-    two: &[String],
+    one: &[&str],
+    two: &[&str],
     rows: Seq<Row>,
 ) -> Result<World, AllocError>
     requires { list_all total_fits rows ≡ true }
-    ensures world { IfOk result (λ w. world_model actions.new w ≡ record { one = map string_bytes one.now; two = map string_bytes two.now; rows = map row_model rows }) }
-    ensures actions { OnOk result (actions.new ≡ with_new (with_new actions.old (map string_bytes one.now)) (map string_bytes two.now)) }
+    ensures world { IfOk result (λ w. world_model actions.new w ≡ record { one = map name_bytes one.now; two = map name_bytes two.now; rows = map row_model rows }) }
+    ensures actions { OnOk result (actions.new ≡ with_new (with_new actions.old (map name_bytes one.now)) (map name_bytes two.now)) }
     ensures fits { IfOk result (λ w. place_fits (length actions.new) (place.World w) ≡ true) }
 {
     let one = action_ids(alloc, actions, one)?;
@@ -87,15 +88,16 @@ fn numbered_world(
 fn action_ids(
     alloc: Global,
     actions: &mut NameTable,
-    names: &[String],
+    names: &[&str],
 ) -> Result<Vec<ActionId>, AllocError>
-    ensures table { OnOk result (actions.new ≡ with_new actions.old (map string_bytes names.now)) }
-    ensures ids { IfOk result (λ ids. action_list actions.new ids.items ≡ map string_bytes names.now) }
+    ensures table { OnOk result (actions.new ≡ with_new actions.old (map name_bytes names.now)) }
+    ensures ids { IfOk result (λ ids. action_list actions.new ids.items ≡ map name_bytes names.now) }
     ensures below { IfOk result (λ ids. list_all (λ (i : ActionId). nat_lt i.0 (length actions.new)) ids.items ≡ true) }
 {
     let mut ids = Vec::with_capacity(alloc, names.len())?;
-    for name in names {
-        ids.push(action_id(actions, name.as_str())?)?;
+    for i in 0..names.len() {
+        let name = names[i];
+        ids.push(action_id(actions, name)?)?;
     }
     Ok(ids)
 }

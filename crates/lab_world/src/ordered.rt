@@ -42,11 +42,11 @@ use std::alloc::{AllocError, Global};
 use std::mem;
 
 /// The places with the rows of each in order, or the first joint action that has no row.
-pub fn ordered_places(
+pub fn ordered_places<'a>(
     alloc: Global,
-    places: Vec<PlacedPlace>,
-) -> Result<Vec<OrderedPlace>, AssembleFault>
-    ensures places { Agrees (λ v. map ordered_place_of v.items) assemble_fault result (each ordered (map placed_place_of places.items)) }
+    places: Vec<PlacedPlace<'a>>,
+) -> Result<Vec<OrderedPlace<'a>>, AssembleFault>
+    ensures places { Agrees (λ v. map ordered_place_of v.items) assemble_fault result (each ordered (map placed_place_of places.entry.items)) }
     ensures totals { IfOk result (λ v. list_all totals_fit v.items ≡ true) }
 {
     let mut found = Vec::with_capacity(alloc, places.len())?;
@@ -56,8 +56,11 @@ pub fn ordered_places(
     Ok(found)
 }
 
-fn ordered_place(alloc: Global, place: PlacedPlace) -> Result<OrderedPlace, AssembleFault>
-    ensures place { Agrees ordered_place_of assemble_fault result (ordered (placed_place_of place)) }
+fn ordered_place<'a>(
+    alloc: Global,
+    place: PlacedPlace<'a>,
+) -> Result<OrderedPlace<'a>, AssembleFault>
+    ensures place { Agrees ordered_place_of assemble_fault result (ordered (placed_place_of place.entry)) }
     ensures totals { IfOk result (λ p. totals_fit p ≡ true) }
 {
     match place {

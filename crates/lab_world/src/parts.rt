@@ -1,4 +1,4 @@
-//! The parts of a game by names, as a text lists them, with the lines where they stand.
+//! The parts of a game by names, as a text lists them, with the lines where they stand. A name is a `String`, or a `&str` that stands in the text.
 ghost use Rattle.std.specs.Prelude.{◌≡◌};
 ghost use Rattle.lab_world.specs.declared.parts.AssembleFault.TheVariants.{Memory};
 
@@ -9,33 +9,33 @@ use std::alloc::{AllocError, AllocFailed};
 
 /// An outcome by names, with its line.
 #[derive(Drop)]
-pub struct PartOutcome {
+pub struct PartOutcome<T = String> {
     pub line: u32,
     /// From 1 to 1,048,576.
     pub weight: u32,
-    pub next: String,
-    pub own1: String,
-    pub own2: String,
-    pub public: String,
+    pub next: T,
+    pub own1: T,
+    pub own2: T,
+    pub public: T,
 }
 
 /// A row by the names of its actions, with its line.
 #[derive(Drop)]
-pub struct PartRow {
+pub struct PartRow<T = String> {
     pub line: u32,
-    pub first: String,
-    pub second: String,
-    pub outcomes: Seq<PartOutcome>,
+    pub first: T,
+    pub second: T,
+    pub outcomes: Seq<PartOutcome<T>>,
 }
 
 /// A world with its rows as they were listed, or an end with what it pays seat 1. Its name stands in `Parts::names`.
 #[derive(Drop)]
-pub enum PartPlace {
+pub enum PartPlace<T = String> {
     World {
         line: u32,
-        one: Seq<String>,
-        two: Seq<String>,
-        rows: Seq<PartRow>,
+        one: Seq<T>,
+        two: Seq<T>,
+        rows: Seq<PartRow<T>>,
     },
     End {
         line: u32,
@@ -45,15 +45,15 @@ pub enum PartPlace {
 
 /// All that a text declares of a game, by names.
 #[derive(Drop)]
-pub struct Parts {
+pub struct Parts<T = String> {
     pub grid: u32,
     pub horizon: u32,
     pub recall: Recall,
     pub tokens: NameTable,
     /// The names of the places, in their order.
     pub names: NameTable,
-    pub places: Seq<PartPlace>,
-    pub root: String,
+    pub places: Seq<PartPlace<T>>,
+    pub root: T,
     pub root_line: u32,
 }
 

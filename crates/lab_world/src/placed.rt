@@ -1,10 +1,11 @@
 //! Rows to their joint actions.
-ghost use Rattle.std.specs.Prelude.{◌≡◌, ◌+◌, ◌*◌, ◌<◌, ◌^◌, [], map, length, string_bytes, true, IfOk, OnOk};
+ghost use Rattle.std.specs.Prelude.{◌≡◌, ◌+◌, ◌*◌, ◌<◌, ◌^◌, [], map, length, true, IfOk, OnOk};
 ghost use Rattle.std.specs.List.{list_all};
 ghost use Rattle.lab_defs_text.specs.Words.{apart_after};
 ghost use Rattle.lab_defs_text.specs.Agreement.{Agrees};
 ghost use Rattle.lab_defs_text.specs.Steps.{each};
 ghost use Rattle.lab_defs_text.specs.Assembly.{action_of, place_rows as rows_placed, placed};
+ghost use Rattle.lab_lex.specs.Names.{name_bytes};
 ghost use Rattle.lab_world.specs.Drafts.{assemble_fault};
 ghost use Rattle.lab_world.specs.Stages.{
   known_apart,
@@ -25,12 +26,12 @@ use lab_seq::Seq;
 use std::alloc::{AllocError, Global};
 
 /// The places with the rows of each by their joint actions, or the first row that is one too many.
-pub fn placed_places(
+pub fn placed_places<'a>(
     alloc: Global,
-    places: Vec<KnownPlace>,
-) -> Result<Vec<PlacedPlace>, AssembleFault>
+    places: Vec<KnownPlace<'a>>,
+) -> Result<Vec<PlacedPlace<'a>>, AssembleFault>
     requires { list_all known_apart (map known_place_of places.items) ≡ true }
-    ensures { Agrees (λ v. map placed_place_of v.items) assemble_fault result (each placed (map known_place_of places.items)) }
+    ensures { Agrees (λ v. map placed_place_of v.items) assemble_fault result (each placed (map known_place_of places.entry.items)) }
 {
     let mut found = Vec::with_capacity(alloc, places.len())?;
     for place in places {
@@ -39,9 +40,9 @@ pub fn placed_places(
     Ok(found)
 }
 
-fn placed_place(alloc: Global, place: KnownPlace) -> Result<PlacedPlace, AssembleFault>
+fn placed_place<'a>(alloc: Global, place: KnownPlace<'a>) -> Result<PlacedPlace<'a>, AssembleFault>
     requires { known_apart (known_place_of place) ≡ true }
-    ensures { Agrees placed_place_of assemble_fault result (placed (known_place_of place)) }
+    ensures { Agrees placed_place_of assemble_fault result (placed (known_place_of place.entry)) }
 {
     match place {
         KnownPlace::World {
@@ -65,13 +66,13 @@ fn placed_place(alloc: Global, place: KnownPlace) -> Result<PlacedPlace, Assembl
 // The rows of a world by its actions.
 fn rows_in_world(
     alloc: Global,
-    one: &[String],
-    two: &[String],
-    rows: Vec<KnownRow>,
+    one: &[&str],
+    two: &[&str],
+    rows: Vec<KnownRow<'_>>,
 ) -> Result<PlacedRows, AssembleFault>
-    requires one { apart_after [] (map string_bytes one.now) ≡ true }
-    requires two { apart_after [] (map string_bytes two.now) ≡ true }
-    ensures { Agrees placed_rows_of assemble_fault result (rows_placed (map string_bytes one.now) (map string_bytes two.now) [] (map known_row_of rows.items)) }
+    requires one { apart_after [] (map name_bytes one.now) ≡ true }
+    requires two { apart_after [] (map name_bytes two.now) ≡ true }
+    ensures { Agrees placed_rows_of assemble_fault result (rows_placed (map name_bytes one.now) (map name_bytes two.now) [] (map known_row_of rows.entry.items)) }
 {
     let one = NameList::new(alloc, one)?;
     let two = NameList::new(alloc, two)?;
@@ -79,18 +80,19 @@ fn rows_in_world(
 }
 
 /// A table of names, none of which stands twice.
-pub fn table_of(alloc: Global, names: &[String]) -> Result<NameTable, AllocError>
-    requires { apart_after [] (map string_bytes names.now) ≡ true }
-    ensures { IfOk result (λ t. t ≡ map string_bytes names.now) }
+pub fn table_of(alloc: Global, names: &[&str]) -> Result<NameTable, AllocError>
+    requires { apart_after [] (map name_bytes names.now) ≡ true }
+    ensures { IfOk result (λ t. t ≡ map name_bytes names.now) }
 {
     let Ok(mut table) = NameTable::new(alloc) else {
         return Err(AllocError);
     };
-    for name in names {
+    for i in 0..names.len() {
+        let name = names[i];
         if table.count() == u32::MAX {
             return Err(AllocError);
         }
-        match table.add(name.as_str()) {
+        match table.add(name) {
             Ok(_) => {}
             Err(TableFault::Twice { .. }) => unreachable!(),
             Err(TableFault::Memory) => return Err(AllocError),
@@ -103,9 +105,9 @@ fn place_rows(
     alloc: Global,
     one: &NameList<'_>,
     two: &NameList<'_>,
-    rows: Vec<KnownRow>,
+    rows: Vec<KnownRow<'_>>,
 ) -> Result<PlacedRows, AssembleFault>
-    ensures { Agrees placed_rows_of assemble_fault result (rows_placed one.now two.now [] (map known_row_of rows.items)) }
+    ensures { Agrees placed_rows_of assemble_fault result (rows_placed one.now two.now [] (map known_row_of rows.entry.items)) }
 {
     let outcomes = Vec::with_capacity(alloc, rows.len())?;
     let mut found = PlacedRows {
@@ -123,10 +125,10 @@ fn place_row(
     found: &mut PlacedRows,
     one: &NameList<'_>,
     two: &NameList<'_>,
-    row: KnownRow,
+    row: KnownRow<'_>,
 ) -> Result<(), AssembleFault>
     requires even { length found.old.numbers ≡ length found.old.outcomes.items }
-    ensures row { Agrees (λ _. placed_rows_of found.new) assemble_fault result (with_row one.now two.now (placed_rows_of found.old) (known_row_of row)) }
+    ensures row { Agrees (λ _. placed_rows_of found.new) assemble_fault result (with_row one.now two.now (placed_rows_of found.old) (known_row_of row.entry)) }
     ensures even { OnOk result (length found.new.numbers ≡ length found.new.outcomes.items) }
 {
     let number = joint_action(one, two, &row)?;
@@ -142,12 +144,11 @@ fn place_row(
 fn joint_action(
     one: &NameList<'_>,
     two: &NameList<'_>,
-    row: &KnownRow,
+    row: &KnownRow<'_>,
 ) -> Result<u64, AssembleFault>
     ensures { Agrees (λ n. n) assemble_fault result (action_of one.now two.now (known_row_of row.now)) }
 {
-    let (Some(first), Some(second)) = (one.find(row.first.as_str()), two.find(row.second.as_str()))
-    else {
+    let (Some(first), Some(second)) = (one.find(row.first), two.find(row.second)) else {
         return Err(AssembleFault::ExtraRow { line: row.line });
     };
     Ok(first as u64 * two.count() as u64 + second as u64)

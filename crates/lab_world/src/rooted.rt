@@ -16,16 +16,16 @@ use lab_lex::NameTable;
 use std::alloc::Global;
 
 /// The places with their rows in order, where the root, a name in line `line`, is a world.
-pub fn rooted_places(
+pub fn rooted_places<'a>(
     alloc: Global,
     names: &NameTable,
     tokens: &NameTable,
-    places: Vec<PartPlace>,
+    places: Vec<PartPlace<&'a str>>,
     line: u32,
     root: &str,
-) -> Result<RootedPlaces, AssembleFault>
+) -> Result<RootedPlaces<'a>, AssembleFault>
     requires { list_all part_ok (map (part_place_of []) places.items) ≡ true }
-    ensures places { Agrees rooted_of assemble_fault result (rooted names.now tokens.now line root.now (map (part_place_of []) places.items)) }
+    ensures places { Agrees rooted_of assemble_fault result (rooted names.now tokens.now line root.now (map (part_place_of []) places.entry.items)) }
     ensures totals { IfOk result (λ r. list_all totals_fit r.places.items ≡ true) }
 {
     let known = known_places(alloc, names, tokens, places)?;
@@ -39,7 +39,7 @@ pub fn rooted_places(
 }
 
 // Whether the place with a number is a world.
-fn is_world(places: &[OrderedPlace], number: u32) -> bool
+fn is_world(places: &[OrderedPlace<'_>], number: u32) -> bool
     ensures { result ≡ is_world_at number (map ordered_place_of places.now) }
 {
     matches!(

@@ -5,21 +5,21 @@ use lab_seq::Seq;
 
 /// A row whose outcomes are known by numbers.
 #[derive(Drop)]
-pub struct KnownRow {
+pub struct KnownRow<'a> {
     pub line: u32,
-    pub first: String,
-    pub second: String,
+    pub first: &'a str,
+    pub second: &'a str,
     pub outcomes: Seq<Outcome>,
 }
 
 /// A place whose outcomes are known by numbers.
 #[derive(Drop)]
-pub enum KnownPlace {
+pub enum KnownPlace<'a> {
     World {
         line: u32,
-        one: Seq<String>,
-        two: Seq<String>,
-        rows: Seq<KnownRow>,
+        one: Seq<&'a str>,
+        two: Seq<&'a str>,
+        rows: Seq<KnownRow<'a>>,
     },
     End(i32),
 }
@@ -33,11 +33,11 @@ pub struct PlacedRows {
 
 /// A place whose rows have their joint actions.
 #[derive(Drop)]
-pub enum PlacedPlace {
+pub enum PlacedPlace<'a> {
     World {
         line: u32,
-        one: Seq<String>,
-        two: Seq<String>,
+        one: Seq<&'a str>,
+        two: Seq<&'a str>,
         rows: PlacedRows,
     },
     End(i32),
@@ -45,10 +45,10 @@ pub enum PlacedPlace {
 
 /// A place with a row for each joint action, in order, and names for its actions.
 #[derive(Drop)]
-pub enum OrderedPlace {
+pub enum OrderedPlace<'a> {
     World {
-        one: Seq<String>,
-        two: Seq<String>,
+        one: Seq<&'a str>,
+        two: Seq<&'a str>,
         rows: Seq<Row>,
     },
     End(i32),
@@ -56,7 +56,7 @@ pub enum OrderedPlace {
 
 /// Places with their rows in order, and the number of the root, a world.
 #[derive(Drop)]
-pub struct RootedPlaces {
-    pub places: Vec<OrderedPlace>,
+pub struct RootedPlaces<'a> {
+    pub places: Vec<OrderedPlace<'a>>,
     pub root: u32,
 }

@@ -8,8 +8,8 @@ use Rattle.lab_text.specs.Faults.{text_fault}
 use Rattle.lab_text.proofs.GameSteps.{all_fit, game_is, parts_fault, whole_fault, fault_told, text_read, only_read}
 use Rattle.lab_text.proofs.read.read_game.Goals as goal
 
-pub assemble-requires-clause-fit : goal.assemble-requires-clause-fit
-assemble-requires-clause-fit c = all_fit c.args.bytes.now c.in_ok-draft.draft c.all_parts.result c.in_ok-draft.ensures.parts c.all_parts.ensures
+pub assemble_named-requires-clause-fit : goal.assemble_named-requires-clause-fit
+assemble_named-requires-clause-fit c = all_fit c.args.bytes.now c.in_ok-draft.draft c.all_parts.result c.in_ok-draft.ensures.parts c.all_parts.ensures
 
 pub returns-in_err-draft-clause-only : goal.returns-in_err-draft-clause-only
 returns-in_err-draft-clause-only c =
@@ -18,26 +18,26 @@ returns-in_err-draft-clause-only c =
     only_read c.args.bytes.now c.from_residual.result (fault_told c.args.bytes.now c.from_residual.result p.0 fault p.1 (ap text_fault p.2) (parts_fault c.args.bytes.now fault c.in_err-draft.ensures.parts))
 
 -- the fault of the whole
-refused : (c : goal.After-from_residual-in_err-assemble) → Agrees game_model text_fault c.from_residual-in_err-assemble.result (game_of c.args.bytes.now)
+refused : (c : goal.After-from_residual-in_err-assemble_named) → Agrees game_model text_fault c.from_residual-in_err-assemble_named.result (game_of c.args.bytes.now)
 refused c =
-    let p = err_from_is_err_and c.from_residual-in_err-assemble.result c.from_residual-in_err-assemble.ensures.1 in
-    let fault = assemble_fault c.in_err-assemble.field-0.0 in
-    fault_told c.args.bytes.now c.from_residual-in_err-assemble.result p.0 fault p.1 p.2
-    (whole_fault c.args.bytes.now c.in_ok-draft.draft c.all_parts.result fault c.in_ok-draft.ensures.parts c.all_parts.ensures c.in_err-assemble.ensures)
+    let p = err_from_is_err_and c.from_residual-in_err-assemble_named.result c.from_residual-in_err-assemble_named.ensures.1 in
+    let fault = assemble_fault c.in_err-assemble_named.field-0.0 in
+    fault_told c.args.bytes.now c.from_residual-in_err-assemble_named.result p.0 fault p.1 p.2
+    (whole_fault c.args.bytes.now c.in_ok-draft.draft c.all_parts.result fault c.in_ok-draft.ensures.parts c.all_parts.ensures c.in_err-assemble_named.ensures)
 
-pub returns-in_err-assemble-clause-exact : goal.returns-in_err-assemble-clause-exact
-returns-in_err-assemble-clause-exact c = refused c
+pub returns-in_err-assemble_named-clause-exact : goal.returns-in_err-assemble_named-clause-exact
+returns-in_err-assemble_named-clause-exact c = refused c
 
-pub returns-in_err-assemble-clause-only : goal.returns-in_err-assemble-clause-only
-returns-in_err-assemble-clause-only c = only_read c.args.bytes.now c.from_residual-in_err-assemble.result (refused c)
+pub returns-in_err-assemble_named-clause-only : goal.returns-in_err-assemble_named-clause-only
+returns-in_err-assemble_named-clause-only c = only_read c.args.bytes.now c.from_residual-in_err-assemble_named.result (refused c)
 
 pub returns-clause-exact : goal.returns-clause-exact
-returns-clause-exact c = game_is c.args.bytes.now c.in_ok-draft.draft c.all_parts.result c.in_ok-draft.ensures.parts c.all_parts.ensures ∙ c.in_ok-assemble.ensures
+returns-clause-exact c = game_is c.args.bytes.now c.in_ok-draft.draft c.all_parts.result c.in_ok-draft.ensures.parts c.all_parts.ensures ∙ c.in_ok-assemble_named.ensures
 
 pub returns-clause-text : goal.returns-clause-text
 returns-clause-text c =
-    text_read c.args.bytes.now (game_model c.in_ok-assemble.field-0) (game_is c.args.bytes.now c.in_ok-draft.draft c.all_parts.result c.in_ok-draft.ensures.parts c.all_parts.ensures ∙ c.in_ok-assemble.ensures)
+    text_read c.args.bytes.now (game_model c.in_ok-assemble_named.field-0) (game_is c.args.bytes.now c.in_ok-draft.draft c.all_parts.result c.in_ok-draft.ensures.parts c.all_parts.ensures ∙ c.in_ok-assemble_named.ensures)
 
 pub returns-clause-only : goal.returns-clause-only
 returns-clause-only c =
-    only_read c.args.bytes.now (Ok c.in_ok-assemble.field-0) (game_is c.args.bytes.now c.in_ok-draft.draft c.all_parts.result c.in_ok-draft.ensures.parts c.all_parts.ensures ∙ c.in_ok-assemble.ensures)
+    only_read c.args.bytes.now (Ok c.in_ok-assemble_named.field-0) (game_is c.args.bytes.now c.in_ok-draft.draft c.all_parts.result c.in_ok-draft.ensures.parts c.all_parts.ensures ∙ c.in_ok-assemble_named.ensures)

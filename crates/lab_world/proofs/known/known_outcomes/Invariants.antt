@@ -1,4 +1,5 @@
-use Rattle.std.proofs.Common.{◌≡◌, map, drop}
+use Rattle.std.proofs.Common.{◌≡◌, map}
+use Rattle.std.specs.Vec.Iter.{into_iter_items}
 use Rattle.lab_defs_text.specs.Steps.{each}
 use Rattle.lab_defs_text.specs.Assembly.{known_outcome}
 use Rattle.lab_world.specs.Drafts.{part_outcome_of}
@@ -8,4 +9,4 @@ use Rattle.lab_world.proofs.known.known_outcomes.Given as goal
 
 abbrev pub invariant-loop-outcome : goal.invariant-loop-outcome
 invariant-loop-outcome l =
-    each_on (known_outcome l.names l.tokens) (outcomes_model l.found.items) (map part_outcome_of (drop l.outcome-index l.outcomes)) ≡ each (known_outcome l.names l.tokens) (map part_outcome_of l.outcomes)
+    each_on (known_outcome l.names l.tokens) (outcomes_model l.found.items) (map part_outcome_of (into_iter_items l.outcome-iterator)) ≡ each (known_outcome l.names l.tokens) (map part_outcome_of l.fn.outcomes.items)

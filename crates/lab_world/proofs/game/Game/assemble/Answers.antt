@@ -1,54 +1,18 @@
-use Rattle.std.proofs.Common.{◌≡◌, [], List, Result, Err, map, true, ap, sym, subst, ◌∙◌}
-use Rattle.std.specs.List.{list_all}
-use Rattle.std.proofs.lemmas.Result.{err_from_is_err_and}
-use Rattle.lab_defs_text.specs.Agreement.{Agrees, FaultAgrees}
-use Rattle.lab_defs_text.specs.Faults.{TextFault}
+use Rattle.std.proofs.Common.{[], map, string_bytes, ap, sym, subst, ◌∙◌}
+use Rattle.lab_defs_text.specs.Agreement.{Agrees}
+use Rattle.lab_defs_text.specs.Drafts.{Draft}
 use Rattle.lab_defs_text.specs.Assembly.{assembled}
-use Rattle.lab_defs_text.specs.Parts.{part_ok}
-use Rattle.lab_world.specs.declared.parts.AssembleFault.{AssembleFault}
-use Rattle.lab_world.specs.declared.parts.PartPlace.{PartPlace}
-use Rattle.lab_world.specs.declared.game.Game.{Game}
-use Rattle.lab_world.specs.Drafts.{part_place_of, draft_of, assemble_fault}
+use Rattle.lab_defs_text.specs.Parts.{parts_ok}
+use Rattle.lab_world.specs.Drafts.{part_place_by, part_place_of, assemble_fault}
 use Rattle.lab_world.specs.Games.{game_model}
-use Rattle.lab_world.specs.Models.{place_model}
-use Rattle.lab_world.specs.Wholes.{action_names, place_fits}
-use Rattle.lab_world.specs.Stages.{Rooted, rooted_of}
-use Rattle.lab_world.proofs.PartLemmas.{named, parts_are_draft, rooted_same, assembled_game, assembled_fault, whole_is}
+use Rattle.lab_world.proofs.PartLemmas.{parts_named}
 use Rattle.lab_world.proofs.game.Game.assemble.Goals as goal
 
-pub rooted_places-requires : goal.rooted_places-requires
-rooted_places-requires c =
-    let p = c.args.parts in
-    subst (λ (ps : List PartPlace). list_all part_ok (map (part_place_of []) ps) ≡ true) (sym c.into_vec.ensures)
-    (sym (named [] [] p.names p.places c.requires.named).ok_same ∙ (parts_are_draft (draft_of p) c.requires.fit).0.places)
+pub assemble_named-requires-clause-named : goal.assemble_named-requires-clause-named
+assemble_named-requires-clause-named c = c.requires.named ∙ sym (parts_named c.args.parts c.from_vec.result c.as_str.result (ap (λ ps. map (part_place_of []) ps) c.from_vec.ensures ∙ c.in_ok-places.ensures ∙ ap (λ ps. map (part_place_by string_bytes []) ps) c.as_slice.ensures) c.as_str.ensures.value).count
 
-pub returns-in_err-places : goal.returns-in_err-places
-returns-in_err-places c =
-    let p = c.args.parts in
-    let same = rooted_same p c.as_str.result.now c.into_vec.result.items (sym c.as_str.ensures.value) (sym c.into_vec.ensures) in
-    let fault = c.in_err-places.field-0.0 in
-    let q = err_from_is_err_and c.from_residual.result c.from_residual.ensures.1 in
-    let answer = assembled (draft_of p) in
-    let agrees = assembled_fault p (assemble_fault fault) c.requires.named (subst (λ (r : Result Rooted TextFault). FaultAgrees (assemble_fault fault) r) (sym same) c.in_err-places.ensures.places) in
-    subst (λ (r : Result Game AssembleFault). Agrees game_model assemble_fault r answer) (sym (q.1 ∙ ap Err q.2)) agrees
-
-pub invariant_of-result : goal.invariant_of-result
-invariant_of-result c =
-    let p = c.args.parts in
-    let same = rooted_same p c.as_str.result.now c.into_vec.result.items (sym c.as_str.ensures.value) (sym c.into_vec.ensures) in
-    let actions = c.in_ok-actions.field-0.actions in
-    let r = rooted_of c.in_ok-places.field-0 in
-    let places : map (place_model actions) c.from_vec.result ≡ r.places = ap (map (place_model actions)) c.from_vec.ensures ∙ c.in_ok-actions.ensures.places in
-    let made = assembled_game p r actions c.from_vec.result c.requires.named (same ∙ c.in_ok-places.ensures.places) places in
-    record {
-      whole = whole_is (draft_of p) p.grid p.horizon p.recall p.tokens p.names actions c.from_vec.result (record { 0 = c.in_ok-places.field-0.root }) c.requires.fit made
-          (ap (list_all (place_fits _)) c.from_vec.ensures ∙ c.in_ok-actions.ensures.fits) (c.in_ok-actions.ensures.actions ∙ ap (action_names []) (sym places));
-    }
+pub assemble_named-requires-clause-fit : goal.assemble_named-requires-clause-fit
+assemble_named-requires-clause-fit c = ap parts_ok (parts_named c.args.parts c.from_vec.result c.as_str.result (ap (λ ps. map (part_place_of []) ps) c.from_vec.ensures ∙ c.in_ok-places.ensures ∙ ap (λ ps. map (part_place_by string_bytes []) ps) c.as_slice.ensures) c.as_str.ensures.value).draft ∙ c.requires.fit
 
 pub returns : goal.returns
-returns c =
-    let p = c.args.parts in
-    let same = rooted_same p c.as_str.result.now c.into_vec.result.items (sym c.as_str.ensures.value) (sym c.into_vec.ensures) in
-    let actions = c.in_ok-actions.field-0.actions in
-    assembled_game p (rooted_of c.in_ok-places.field-0) actions c.from_vec.result c.requires.named (same ∙ c.in_ok-places.ensures.places)
-    (ap (map (place_model actions)) c.from_vec.ensures ∙ c.in_ok-actions.ensures.places)
+returns c = subst (λ (d : Draft). Agrees game_model assemble_fault c.assemble_named.result (assembled d)) (parts_named c.args.parts c.from_vec.result c.as_str.result (ap (λ ps. map (part_place_of []) ps) c.from_vec.ensures ∙ c.in_ok-places.ensures ∙ ap (λ ps. map (part_place_by string_bytes []) ps) c.as_slice.ensures) c.as_str.ensures.value).draft c.assemble_named.ensures
