@@ -1,4 +1,3 @@
 pub mod Positions
 pub mod ClippedDigits
-pub mod EmptyPlaces
 pub mod WholeAnswers

@@ -1,7 +1,9 @@
 -- Words with spaces between or before them.
-use Rattle.std.proofs.Common.{◌≡◌, ℕ, ◌+◌, ◌<◌, List, [], ◌∷◌, ◌++◌, length, drop, get_or, map, ap, sym, ◌∙◌, append-nil, append_assoc}
+use Rattle.std.proofs.Common.{◌≡◌, ℕ, ◌+◌, ◌<◌, List, [], ◌∷◌, ◌++◌, length, drop, get_or, map, ap, sym, ◌∙◌, append-nil, append_assoc, Option}
+use Rattle.std.specs.Borrow.{Bor}
+use Rattle.std.specs.Option.{option_map_or}
 use Rattle.std.proofs.lemmas.List.{at_drop_more}
-use Rattle.lab_defs_text.specs.Words.{Bytes}
+use Rattle.lab_defs_text.specs.Words.{Bytes, words}
 use Rattle.lab_defs_text.specs.Lines.{joined}
 use Rattle.lab_text.specs.Parts.{spaced}
 
@@ -26,3 +28,13 @@ word_added f xs i d before after word whole h e a w =
     ∙ ap (λ t. before ++ 32 ∷ (t ++ spaced (map f (drop (i + 1) xs)))) e
     ∙ ap (λ t. before ++ t) (sym (at_drop_more (λ ys. spaced (map f ys)) xs i d h))
     ∙ w
+
+-- ---- words of a line, one after another
+
+-- the words of what is left, where anything is
+abbrev pub words_left : Option (Bor Bytes) → List Bytes
+words_left rest = option_map_or (λ r. words r.now) rest []
+
+-- how much is left, with its end
+abbrev pub room_left : Option (Bor Bytes) → ℕ
+room_left rest = option_map_or (λ r. length r.now + 1) rest 0

@@ -8,7 +8,7 @@ ghost use Rattle.lab_text.specs.Faults.{line_fault};
 ghost use Rattle.lab_text.specs.Drafts.{pieces};
 
 use crate::line_fault::LineFault;
-use lab_lex::{name, whole, words};
+use lab_lex::{LexFault, first_word, name, whole};
 use std::alloc::Global;
 
 /// The words of a line, with one space between each two.
@@ -30,10 +30,17 @@ pub fn fill_words<'a>(found: &mut Vec<&'a [u8]>, line: &'a [u8]) -> Result<(), L
         (if first_empty 1 (words_of line.now) == 0 then Ok (words_of line.now) else Err (lexical (bad_space_at (first_empty 1 (words_of line.now))))) }
     ensures few { OnOk result (vec_len found.new ≤ length line.now + 1) }
 {
-    let pieces = words(line)?;
     found.clear();
-    for word in pieces {
+    let mut place = 1;
+    let mut rest = Some(line);
+    while let Some(bytes) = rest {
+        let (word, after) = first_word(bytes);
+        if word.is_empty() {
+            return Err(LineFault::Lex(LexFault::BadSpace { place }));
+        }
         found.push(word)?;
+        place += 1;
+        rest = after;
     }
     Ok(())
 }

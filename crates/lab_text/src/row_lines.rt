@@ -78,7 +78,7 @@ pub fn row_line<'a>(
         line,
         first: name_in(first, 2)?,
         second: name_in(second, 3)?,
-        outcomes: Vec::new(alloc),
+        outcomes: Vec::with_capacity(alloc, 1)?,
     };
     let whole = mem::replace(&mut draft.open_row, row);
     if last == LineKind::To {
