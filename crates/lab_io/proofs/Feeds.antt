@@ -1,12 +1,14 @@
 -- Bytes with no line feed, and the byte where a line ends.
-use Rattle.std.proofs.Common.{◌≡◌, ℕ, ◌+◌, ◌≤◌, ◌<◌, ◌∙◌, slice_index, ◌++◌, Bool, List, [], ◌∷◌, ◌==◌, not, true, false, cond, IsTrue, length, take, drop, append_assoc, length-append, refl, arith}
+use Rattle.std.proofs.Common.{◌≡◌, ℕ, zero, suc, Option, Some, None, inl, inr, sym, ◌+◌, ◌≤◌, ◌<◌, ◌∙◌, slice_index, ◌++◌, Bool, List, [], ◌∷◌, ◌==◌, not, true, false, cond, IsTrue, length, take, drop, append_assoc, length-append, refl, arith}
 use Rattle.std.proofs.Math.Numerals.{one-add}
-use Rattle.std.proofs.lemmas.Bool.{and_from, and_parts}
+use Rattle.std.proofs.lemmas.Bool.{and_from, and_parts, cases_Bool}
 use Rattle.std.proofs.lemmas.List.{take-append-le, take-append-drop, length-take-le}
 use Rattle.std.proofs.lemmas.List.Folds.{list_all-append, length-prefix_len}
 use Rattle.std.proofs.lemmas.List.Sums.{prefix_len-le-length, prefix_len_stops}
 use Rattle.std.proofs.lemmas.Bool.Decides.{nat_tests}
 use Rattle.std.specs.List.{list_all, prefix_len, take_while}
+use Rattle.std.specs.Option.{unwrap_or}
+use Rattle.memchr.specs.Find.{IsFirstByte, is_byte}
 use Rattle.lab_io.specs.Reading.{no_feed, IsLine}
 use Rattle.lab_io.specs.declared.line_reader.TheConstants.{LINE_LIMIT}
 
@@ -36,6 +38,22 @@ IsBefore-from bytes n first =
       unended = list_all-prefix (λ (b : ℕ). not (b == 10)) bytes;
       feed = λ more. let stops = prefix_len_stops (λ (b : ℕ). not (b == 10)) bytes 0 more in grind (arith, nat_tests, stops);
     }
+
+-- a prefix that passes, up to a byte that does not
+prefix_is : (bytes : List ℕ) (n : ℕ) → n ≤ length bytes → ((k : ℕ) → k < n → ¬ ((slice_index bytes k == 10) ≡ true)) → (n < length bytes → (slice_index bytes n == 10) ≡ true) → n ≡ prefix_len (λ (b : ℕ). not (b == 10)) bytes
+prefix_is [] n le none feed = omega (arith, le)
+prefix_is (x ∷ xs) zero le none feed = rw (feed (omega arith)) refl
+prefix_is (x ∷ xs) (suc n) le none feed = elim (cases_Bool (x == 10)) [
+  | inl t ↦ absurd (none 0 (omega arith) t)
+  | inr f ↦ (let rest = prefix_is xs n (omega (arith, le)) (λ k lt. none (suc k) (omega (arith, lt))) (λ lt. feed (omega (arith, lt))) in rw f (omega (arith, rest)))
+]
+
+-- where the first line feed stands, or how many bytes there are, so many stand before it
+pub before_is : (bytes : List ℕ) (found : Option ℕ) → IsFirstByte (is_byte 10) bytes found → unwrap_or found (length bytes) ≡ length (take_while (λ (b : ℕ). not (b == 10)) bytes)
+before_is bytes None h =
+    prefix_is bytes (length bytes) (omega arith) (λ k lt. h k (omega arith) lt) (λ lt. absurd (omega (arith, lt))) ∙ sym (length-prefix_len (λ (b : ℕ). not (b == 10)) bytes)
+before_is bytes (Some n) h =
+    prefix_is bytes n (omega (arith, h.0.high)) (λ k lt. h.0.before k (omega arith) lt) (λ lt. h.1) ∙ sym (length-prefix_len (λ (b : ℕ). not (b == 10)) bytes)
 
 -- a front of bytes with no line feed has none
 pub no_feed-take : (n : ℕ) (bytes : List ℕ) → IsTrue (no_feed bytes) → IsTrue (no_feed (take n bytes))

@@ -39,6 +39,7 @@ ghost use Rattle.lab_io.specs.Reading.{
 use crate::Source;
 use crate::line_reader::{LINE_LIMIT, READ_AHEAD, ReadStop, Took};
 use crate::read_ahead::ReadAhead;
+use memchr::memchr;
 
 /// Takes the bytes of the next line into an empty one, without its line feed, and asks the source
 /// for more only where no byte is read ahead.
@@ -117,5 +118,5 @@ fn extend_line(line: &mut Vec<u8>, ahead: &[u8], allowance: u64) -> Result<usize
 fn count_before_feed(bytes: &[u8]) -> usize
     ensures { result ≡ length (take_while (λ c. not (c == 10)) bytes.now) }
 {
-    bytes.iter().take_while(|byte| **byte != b'\n').count()
+    memchr(b'\n', bytes).unwrap_or(bytes.len())
 }

@@ -8,3 +8,4 @@ pub mod FaultSteps
 pub mod TakeSteps
 pub mod LoopSteps
 pub mod GameSteps
+pub mod FirstPlaces

@@ -3,6 +3,8 @@ ghost use Rattle.std.specs.Prelude.{◌≡◌, ◌+◌, ◌∷◌, ◌==◌, [],
 ghost use Rattle.std.specs.Option.{option_map_or};
 ghost use Rattle.lab_defs_text.specs.Words.{lines as lines_of};
 
+use memchr::memchr;
+
 /// The first line, and what follows its line feed; none where there is no line feed.
 pub fn first_line(bytes: &[u8]) -> Option<(&[u8], &[u8])>
     ensures lines { lines_of bytes.now ≡ option_map_or (λ x. x.0.now ∷ lines_of x.1.now) result (bytes.now ∷ []) }
@@ -15,5 +17,5 @@ pub fn first_line(bytes: &[u8]) -> Option<(&[u8], &[u8])>
 fn first_feed(bytes: &[u8]) -> Option<usize>
     ensures { result ≡ position (λ c. c == 10) bytes.now }
 {
-    bytes.iter().position(|c| *c == b'\n')
+    memchr(b'\n', bytes)
 }
