@@ -15,7 +15,7 @@ use Rattle.lab_world.specs.declared.parts.AssembleFault.{AssembleFault}
 use Rattle.lab_world.specs.declared.parts.AssembleFault.TheVariants as assemble
 use Rattle.lab_world.specs.Models.{recall_model}
 
--- with the bytes of a name
+-- parts by a function that gives the bytes of a name
 abbrev pub part_outcome_by : {T : Type 0} → (T → Bytes) → PartOutcome T → draft.PartOutcome
 part_outcome_by text o = record { line = o.line; weight = o.weight; next = text o.next; own1 = text o.own1; own2 = text o.own2; public = text o.public }
 
