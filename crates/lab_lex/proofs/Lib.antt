@@ -1,3 +1,4 @@
 pub mod Positions
 pub mod ClippedDigits
+pub mod EmptyPlaces
 pub mod WholeAnswers
