@@ -4,4 +4,5 @@ pub mod OrderLemmas
 pub mod PartLemmas
 pub mod PlaceLemmas
 pub mod RowLemmas
+pub mod RunLemmas
 pub mod SearchLemmas

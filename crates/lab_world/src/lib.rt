@@ -13,6 +13,7 @@ mod parts;
 mod place;
 mod placed;
 mod rooted;
+mod row_numbers;
 mod stages;
 
 pub use game::Game;

@@ -1,5 +1,5 @@
 //! Sets of numbers.
-ghost use Rattle.std.specs.Prelude.{◌≡◌, ◌++◌, ◌∷◌, [], position, false, nat_eq, OnOk};
+ghost use Rattle.std.specs.Prelude.{◌≡◌, ◌<◌, ◌^◌, ◌==◌, ◌++◌, ◌∷◌, [], length, position, false, nat_eq, IfSome, OnOk};
 ghost use Rattle.std.specs.List.{list_any};
 
 use indexmap::IndexSet;
@@ -41,9 +41,17 @@ impl NumberSet {
         self.first.contains(&number) || self.others.contains(&number)
     }
 
+    /// Whether there is no number.
+    pub fn is_empty(&self) -> bool
+        ensures { result ≡ (length self.now == 0) }
+    {
+        self.first.is_empty() && self.others.is_empty()
+    }
+
     /// The place of a number, where it is there.
     pub fn find(&self, number: u64) -> Option<usize>
-        ensures { result ≡ position (nat_eq number) self.now }
+        ensures place { result ≡ position (nat_eq number) self.now }
+        ensures few { IfSome result (λ k. k < 2 ^ 33) }
     {
         match place_of(&self.first, number) {
             Some(place) => Some(place),

@@ -17,9 +17,9 @@ ghost use Rattle.lab_world.specs.Stages.{
 };
 
 use super::name_list::NameList;
-use super::number_set::NumberSet;
 use super::parts::AssembleFault;
 use super::place::Outcome;
+use super::row_numbers::RowNumbers;
 use super::stages::{KnownPlace, KnownRow, PlacedPlace, PlacedRows};
 use lab_lex::{NameTable, TableFault};
 use lab_seq::Seq;
@@ -111,7 +111,7 @@ fn place_rows(
 {
     let outcomes = Vec::with_capacity(alloc, rows.len())?;
     let mut found = PlacedRows {
-        numbers: NumberSet::new(alloc),
+        numbers: RowNumbers::new(alloc),
         outcomes,
     };
     for row in rows {

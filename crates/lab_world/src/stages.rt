@@ -1,6 +1,6 @@
 //! What places are on the way from parts to a game: first outcomes become numbers, then rows get their joint actions, then they stand in order.
-use super::number_set::NumberSet;
 use super::place::{Outcome, Row};
+use super::row_numbers::RowNumbers;
 use lab_seq::Seq;
 
 /// A row whose outcomes are known by numbers.
@@ -27,7 +27,7 @@ pub enum KnownPlace<'a> {
 /// The numbers of joint actions, each once, and beside them the outcomes of each.
 #[derive(Drop)]
 pub struct PlacedRows {
-    pub numbers: NumberSet,
+    pub numbers: RowNumbers,
     pub outcomes: Vec<Seq<Outcome>>,
 }
 

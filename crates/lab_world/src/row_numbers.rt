@@ -1,0 +1,69 @@
+//! Numbers of rows that mostly come in order.
+ghost use Rattle.std.specs.Prelude.{◌≡◌, ◌++◌, ◌∷◌, [], position, false, nat_eq, OnOk};
+ghost use Rattle.std.specs.List.{list_any};
+
+use super::number_set::NumberSet;
+use std::alloc::{AllocError, Global};
+use std::marker::Model;
+
+/// Numbers, each once, in the order of adding. While each is the next one from 0 on they are only counted, so that rows in
+/// order take no memory.
+#[derive(Drop)]
+pub struct RowNumbers {
+    in_order: u32,
+    others: NumberSet,
+}
+
+impl Model for RowNumbers {
+    ghost use Rattle.std.specs.Prelude.{ℕ, List, ◌++◌};
+    ghost use Rattle.std.specs.List.{range_with_len};
+
+    ghost Value = { List ℕ };
+
+    ghost view = { λ s. range_with_len 0 s.in_order ++ s.others };
+}
+
+impl RowNumbers {
+    /// No numbers.
+    pub fn new(alloc: Global) -> RowNumbers
+        ensures { result ≡ [] }
+    {
+        RowNumbers {
+            in_order: 0,
+            others: NumberSet::new(alloc),
+        }
+    }
+
+    /// Whether a number is there.
+    pub fn contains(&self, number: u64) -> bool
+        ensures { result ≡ list_any (nat_eq number) self.now }
+    {
+        if number < self.in_order as u64 {
+            return true;
+        }
+        self.others.contains(number)
+    }
+
+    /// The place of a number, where it is there.
+    pub fn find(&self, number: u64) -> Option<usize>
+        ensures { result ≡ position (nat_eq number) self.now }
+    {
+        if number < self.in_order as u64 {
+            return Some(number as usize);
+        }
+        let place = self.others.find(number)?;
+        Some(self.in_order as usize + place)
+    }
+
+    /// Adds a number that is not there.
+    pub fn add(&mut self, number: u64) -> Result<(), AllocError>
+        requires { list_any (nat_eq number) self.old ≡ false }
+        ensures { OnOk result (self.new ≡ self.old ++ number ∷ []) }
+    {
+        if number == self.in_order as u64 && number < u32::MAX as u64 && self.others.is_empty() {
+            self.in_order += 1;
+            return Ok(());
+        }
+        self.others.add(number)
+    }
+}
