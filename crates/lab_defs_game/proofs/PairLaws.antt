@@ -23,13 +23,13 @@ any_place p (h ∷ hs) e = at (or_cases (p h) (list_any p hs) e) (λ f. any_plac
     at (inr t) rest = let r = rest t in (suc r.0, omega (arith, r.1), r.2)
 
 -- where one passes at a place, some does
-place_any : (p : History → Bool) (hs : List History) (k : ℕ) → k < length hs → p (get_or hs k []) ≡ true → list_any p hs ≡ true
+pub place_any : (p : History → Bool) (hs : List History) (k : ℕ) → k < length hs → p (get_or hs k []) ≡ true → list_any p hs ≡ true
 place_any p [] k l e = absurd (omega (arith, l))
 place_any p (h ∷ hs) zero l e = or_left (p h) (list_any p hs) e
 place_any p (h ∷ hs) (suc k) l e = or_right (p h) (list_any p hs) (place_any p hs k (omega (arith, l)) e)
 
 -- where some item passes, the first that does is at its place, and none before it passes
-first_place : (p : History → Bool) (hs : List History) → list_any p hs ≡ true
+pub first_place : (p : History → Bool) (hs : List History) → list_any p hs ≡ true
     → (place_of_first p hs < length hs) × (p (get_or hs (place_of_first p hs) []) ≡ true) × ((k : ℕ) → k < place_of_first p hs → p (get_or hs k []) ≡ false)
 first_place p [] e = absurd cc
 first_place p (h ∷ hs) e = at (is_true_or (p h)) (λ f. first_place p hs f)

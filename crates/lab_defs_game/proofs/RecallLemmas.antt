@@ -93,7 +93,7 @@ module _ (akin clash : History → History → Bool) where
 -- ---- histories that agree
 
 -- lists of names that are found to be the same are the same
-names_same : (ns ms : List Bytes) → same_names ns ms ≡ true → ns ≡ ms
+pub names_same : (ns ms : List Bytes) → same_names ns ms ≡ true → ns ≡ ms
 names_same [] [] e = refl
 names_same [] (m ∷ ms) e = absurd cc
 names_same (n ∷ ns) [] e = absurd cc
@@ -102,17 +102,17 @@ names_same (n ∷ ns) (m ∷ ms) e =
     ap (λ x. x ∷ ns) (bytes_eq_is n m a.0) ∙ ap (λ xs. m ∷ xs) (names_same ns ms a.1)
 
 -- a list of names is found to be itself
-names_itself : (ns : List Bytes) → same_names ns ns ≡ true
+pub names_itself : (ns : List Bytes) → same_names ns ns ≡ true
 names_itself [] = refl
 names_itself (n ∷ ns) = and_from (bytes_eq n n) (same_names ns ns) (bytes_eq_refl n) (names_itself ns)
 
 -- where a conjunction fails and its first part holds, the second fails
-second_fails : (x y : Bool) → (x && y) ≡ false → x ≡ true → y ≡ false
+pub second_fails : (x y : Bool) → (x && y) ≡ false → x ≡ true → y ≡ false
 second_fails true y e t = e
 second_fails false y e t = absurd (not_both t refl)
 
 -- where what is negated fails, it holds
-holds : (x : Bool) → not x ≡ false → x ≡ true
+pub holds : (x : Bool) → not x ≡ false → x ≡ true
 holds true e = refl
 holds false e = absurd (not_both refl e)
 
@@ -121,11 +121,11 @@ pub inner_world : (g : GameModel) (h : History) → In h (inner_histories g) →
 inner_world g h i = in_from_filter (λ h. is_world (place_of g h)) (histories g) h i
 
 -- lists that are one compare as equal
-same_list_from : (xs ys : List ℕ) → xs ≡ ys → same_list xs ys ≡ true
+pub same_list_from : (xs ys : List ℕ) → xs ≡ ys → same_list xs ys ≡ true
 same_list_from xs ys e = ap (λ z. same_list xs z) (sym e) ∙ ap is_eq (tied_itself list_total xs)
 
 -- and back
-same_list_is : (xs ys : List ℕ) → same_list xs ys ≡ true → xs ≡ ys
+pub same_list_is : (xs ys : List ℕ) → same_list xs ys ≡ true → xs ≡ ys
 same_list_is xs ys e = list_exact xs ys (eq_is (list_cmp xs ys) e)
 
 -- two histories that see the same, and do not differ, have the same names

@@ -143,7 +143,7 @@ key_total =
     (options_total (then_total (on_total (λ (s : Step). s.place1) nat_cmp_total) (then_total (on_total (λ (s : Step). s.place2) nat_cmp_total) (on_total (λ (s : Step). s.outcome) nat_cmp_total)))))
 
 -- of items in order each is less than those after it
-at_less : {K : Type 0} (R : K → K → Ordering) (xs : List K) (i j : ℕ) (d : K) → Ascending R xs → i < j → j < length xs → R (get_or xs i d) (get_or xs j d) ≡ Less
+pub at_less : {K : Type 0} (R : K → K → Ordering) (xs : List K) (i j : ℕ) (d : K) → Ascending R xs → i < j → j < length xs → R (get_or xs i d) (get_or xs j d) ≡ Less
 at_less R [] i j d a l h = absurd (omega (arith, h))
 at_less R (x ∷ xs) i zero d a l h = absurd (omega (arith, l))
 at_less R (x ∷ xs) zero (suc j) d a l h = all_in (λ y. R x y ≡ Less) xs (get_or xs j d) a.0 (in_get_or xs j d (omega (arith, h)))

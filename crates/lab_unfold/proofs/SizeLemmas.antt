@@ -24,7 +24,7 @@ told_fine None k e some = tt
 told_fine (Some n) k e some = let t = told_is k n (sym e) in (subst (λ m. 0 < m) (sym t.0) some, subst (λ m. m ≤ 2 ^ 80) (sym t.0) t.1)
 
 -- the size is at least the scale
-scale_le : (g : GameModel) → 0 < g.grid → scale g ≤ size g
+pub scale_le : (g : GameModel) → 0 < g.grid → scale g ≤ size g
 scale_le g some =
     let one : scale g ≤ max 1 (top_payoff g) * scale g = omega (arith, mul-le 1 (scale g) (max 1 (top_payoff g)) (scale g) (omega arith) (omega arith)) in
     let pow : 1 ≤ g.grid ^ (most_decisions g 1 + most_decisions g 2) = one-le-pow (most_decisions g 1 + most_decisions g 2) g.grid some in

@@ -17,3 +17,4 @@ mod worlds;
 pub use histories::Histories;
 pub use history::{History, HistoryId, Scale, Step, UnfoldFault};
 pub use unfolding::unfold;
+pub use worlds::{row_of, world_at};

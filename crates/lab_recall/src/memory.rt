@@ -1,0 +1,71 @@
+//! Whether what a seat sees tells its own actions.
+
+ghost use Rattle.std.specs.Prelude.{◌≡◌, ◌⊎◌, ◌<◌, ℕ, false, length, IfSome, IfNone, OnOk, IfErr};
+ghost use Rattle.lab_defs_text.specs.Games.{by_seen};
+ghost use Rattle.lab_defs_game.specs.Laws.{Remembers};
+ghost use Rattle.lab_defs_game.specs.Recall.{one_set};
+ghost use Rattle.lab_world.specs.Games.{game_model};
+ghost use Rattle.lab_unfold.specs.Values.{unfolded};
+ghost use Rattle.lab_seen.specs.Firsts.{AreFirsts, is_inner};
+ghost use Rattle.lab_recall.specs.Tests.{forgets_at, IsFirstAt};
+ghost use Rattle.lab_recall.specs.Faults.{IsMemoryFault};
+
+use crate::RecallFault;
+use lab_seen::first_of_tokens;
+use lab_unfold::{Histories, HistoryId, world_at};
+use lab_world::Game;
+use std::alloc::Global;
+
+/// Checks that the tokens that a seat, 1 or 2, has seen tell its own actions, by the first history of each of its sets.
+pub fn check_memory(
+    alloc: Global,
+    game: &Game,
+    histories: &Histories,
+    sets: &[u32],
+    seat: u32,
+) -> Result<(), RecallFault>
+    requires unfolded { histories.now ≡ unfolded (game_model game.now) }
+    requires seat { (seat ≡ 1) ⊎ (seat ≡ 2) }
+    requires sets { AreFirsts (is_inner (game_model game.now)) (one_set (game_model game.now) seat) histories.now.histories sets.now }
+    ensures none { OnOk result (Remembers (game_model game.now) seat) }
+    ensures fault { IfErr result (λ e. IsMemoryFault (game_model game.now) seat e) }
+{
+    let firsts = first_of_tokens(alloc, game, histories, seat)?;
+    let tokens = firsts.as_slice();
+    match first_forgotten(game, histories, sets, tokens) {
+        Some(second) => Err(RecallFault::Forgotten {
+            seat,
+            first: HistoryId(tokens[second as usize]),
+            second: HistoryId(second),
+        }),
+        None => Ok(()),
+    }
+}
+
+// The first history that is not terminal where the first one with the same tokens is not the first one of the set.
+fn first_forgotten(game: &Game, histories: &Histories, sets: &[u32], tokens: &[u32]) -> Option<u32>
+    requires unfolded { histories.now ≡ unfolded (game_model game.now) }
+    requires sets { length sets.now ≡ length histories.now.items }
+    requires tokens { length tokens.now ≡ length histories.now.items }
+    ensures some { IfSome result (λ n. IsFirstAt (forgets_at (game_model game.now) sets.now tokens.now) (length histories.now.items) n) }
+    ensures none { IfNone result ((i : ℕ) → i < length histories.now.items → forgets_at (game_model game.now) sets.now tokens.now i ≡ false) }
+{
+    for number in 0..histories.count() {
+        if forgets(game, histories, sets, tokens, number) {
+            return Some(number);
+        }
+    }
+    None
+}
+
+// Whether both are not the same at a history that is not terminal.
+fn forgets(game: &Game, histories: &Histories, sets: &[u32], tokens: &[u32], number: u32) -> bool
+    requires unfolded { histories.now ≡ unfolded (game_model game.now) }
+    requires sets { length sets.now ≡ length histories.now.items }
+    requires tokens { length tokens.now ≡ length histories.now.items }
+    requires there { number < length histories.now.items }
+    ensures { result ≡ forgets_at (game_model game.now) sets.now tokens.now number }
+{
+    let here = histories.item(HistoryId(number)).world;
+    world_at(game, here).is_some() && sets[number as usize] != tokens[number as usize]
+}

@@ -1,0 +1,5 @@
+pub mod KeyedLemmas
+pub mod ListLemmas
+pub mod StepItems
+pub mod TraceLemmas
+pub mod AlikeLemmas

@@ -1,0 +1,4 @@
+pub mod Items
+pub mod Firsts
+pub mod Traces
+pub mod Links
