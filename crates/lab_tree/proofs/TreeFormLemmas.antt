@@ -1,0 +1,92 @@
+-- The form of a tree, set by set and row by row.
+use Rattle.std.proofs.Common.{◌≡◌, ℕ, ◌+◌, ◌<◌, ◌≤◌, pos, List, [], Bool, true, false, cond, map, take, length, get_or, Option, Some, None, refl, sym, ap, ◌∙◌, subst, arith}
+use Rattle.std.specs.Prelude.{nat_le, ◌==◌}
+use Rattle.std.specs.List.{range_with_len}
+use Rattle.std.proofs.lemmas.List.{get_or-map, length-map}
+use Rattle.std.proofs.lemmas.List.FromFn.{get_or-map-range_with_len}
+use Rattle.lab_defs_game.specs.Forms.{Taken, decides, deciding}
+use Rattle.lab_defs_game.proofs.FormLemmas.{count_push}
+use Rattle.lab_defs_game.proofs.NumberLemmas.{count_le_length}
+use Rattle.lab_form.specs.declared.items.SetId.{SetId}
+use Rattle.lab_form.specs.declared.items.FormSet.{FormSet}
+use Rattle.lab_form.specs.declared.items.FormRow.{FormRow}
+use Rattle.lab_form.specs.Forms.{FormValue, sets_of, actions_in, parent_of, whole_path, taken_model, AreSets, AreRows, IsNextSet, IsNextRow}
+use Rattle.lab_form.proofs.PathLemmas.{path_step, path_short}
+use Rattle.lab_tree.specs.Trees.{set_id}
+use Rattle.lab_tree.specs.declared.info.SetInfo.{SetInfo}
+use Rattle.lab_tree.specs.declared.info.RowInfo.{RowInfo}
+use Rattle.lab_tree.specs.TreeForms.{decisions_at, form_set, form_sets, form_row, with_sets}
+
+-- the deciding sets on the way up to a step are those up to its set
+pub decisions_of : (sets : List FormSet) (t : SetId × ℕ) → AreSets sets → t.0.0 < length sets → deciding (actions_in sets) (whole_path sets (Some t)) ≡ decisions_at sets t.0.0
+decisions_of sets t ok l =
+    ap (deciding (actions_in sets)) (path_step sets t ok l) ∙ count_push test (whole_path sets (parent_of sets t.0.0)) (taken_model t)
+    ∙ sym (ap (deciding (actions_in sets)) (path_step sets (set_id t.0.0, 0) ok l) ∙ count_push test (whole_path sets (parent_of sets t.0.0)) (taken_model (set_id t.0.0, 0)))
+  where
+    test : Taken → Bool
+    test u = decides (actions_in sets) u.set
+
+-- they are those up to the parent, with the set's own
+pub decisions_next : (sets : List FormSet) (i : ℕ) (d : FormSet) → AreSets sets → i < length sets
+    → decisions_at sets i ≡ deciding (actions_in sets) (whole_path sets (get_or sets i d).parent) + cond (nat_le 2 (get_or sets i d).actions) 1 0
+decisions_next sets i d ok l =
+    ap (deciding (actions_in sets)) (path_step sets (set_id i, 0) ok l)
+    ∙ count_push (λ (u : Taken). decides (actions_in sets) u.set) (whole_path sets (parent_of sets i)) (taken_model (set_id i, 0))
+    ∙ ap (λ o. deciding (actions_in sets) (whole_path sets o) + cond (decides (actions_in sets) i) 1 0) (get_or-map (λ (s : FormSet). s.parent) sets i d None l)
+    ∙ ap (λ n. deciding (actions_in sets) (whole_path sets (get_or sets i d).parent) + cond (nat_le 2 n) 1 0) (get_or-map (λ (s : FormSet). s.actions) sets i d 0 l)
+
+-- there are no more of them than sets
+pub decisions_short : (sets : List FormSet) (o : Option (SetId × ℕ)) → deciding (actions_in sets) (whole_path sets o) ≤ length sets
+decisions_short sets o =
+    omega (arith, count_le_length (λ (u : Taken). decides (actions_in sets) u.set) (whole_path sets o), path_short sets (length sets) o)
+
+-- what is told of sets by their numbers, at one of them
+pub counted_at : (f : ℕ → ℕ) (ns : List ℕ) (n i : ℕ) → ns ≡ map f (range_with_len 0 n) → i < n → get_or ns i 0 ≡ f i
+counted_at f ns n i e l =
+    let none : 0 + i ≡ i = omega arith in
+    ap (λ xs. get_or xs i 0) e ∙ get_or-map-range_with_len f 0 n i i 0 l none
+
+-- ---- sets
+
+-- what is read where there is no set, and where there is no row
+abbrev pub no_set : SetInfo
+no_set = record { id = record { 0 = 0 }; node = record { 0 = 0 }; parent = None; actions = 0; first_weight = 0 }
+
+abbrev pub no_row : RowInfo
+no_row = record { id = record { 0 = 0 }; history = record { 0 = 0 }; worth = record { 0 = pos 0 }; last = [] }
+
+-- a set that stands in the tree may stand in the form behind those before it
+pub set_next : (sets : List SetInfo) (i : ℕ) (d : SetInfo) → AreSets (form_sets sets) → i < length sets → IsNextSet (take i (form_sets sets)) (form_set (get_or sets i d))
+set_next sets i d ok l =
+    subst (IsNextSet (take i (form_sets sets))) (get_or-map form_set sets i d (form_set d) l) (ok i (form_set d) (subst (λ n. i < n) (sym (length-map sets form_set)) l))
+
+-- the deciding sets up to a set with two or more actions, or with fewer
+pub more_decisions : (sets : List SetInfo) (i : ℕ) (d : SetInfo) (before : ℕ) → AreSets (form_sets sets) → i < length sets
+    → before ≡ deciding (actions_in (form_sets sets)) (whole_path (form_sets sets) (get_or sets i d).parent)
+    → before + cond (nat_le 2 (get_or sets i d).actions) 1 0 ≡ decisions_at (form_sets sets) i
+more_decisions sets i d before ok l e =
+    let here : get_or (form_sets sets) i (form_set d) ≡ form_set (get_or sets i d) = get_or-map form_set sets i d (form_set d) l in
+    ap (λ n. n + cond (nat_le 2 (get_or sets i d).actions) 1 0) e
+    ∙ ap (λ (s : FormSet). deciding (actions_in (form_sets sets)) (whole_path (form_sets sets) s.parent) + cond (nat_le 2 s.actions) 1 0) (sym here)
+    ∙ sym (decisions_next (form_sets sets) i (form_set d) ok (subst (λ n. i < n) (sym (length-map sets form_set)) l))
+
+-- the sets of a seat once they are given
+pub sets_with : (f : FormValue) (seat : ℕ) (sets : List FormSet) → sets_of (with_sets f seat sets) seat ≡ sets
+sets_with f seat sets = at (seat == 1)
+  where
+    given : Bool → FormValue
+    given b = cond b (record { sets1 = sets; sets2 = f.sets2; rows = f.rows; set_room = f.set_room; row_room = f.row_room }) (record { sets1 = f.sets1; sets2 = sets; rows = f.rows; set_room = f.set_room; row_room = f.row_room })
+
+    at : (b : Bool) → cond b (given b).sets1 (given b).sets2 ≡ sets
+    at true = refl
+    at false = refl
+
+-- ---- rows
+
+-- a row of the tree may stand in the form
+pub row_next : (sets1 sets2 : List FormSet) (rows : List RowInfo) (i most1 most2 : ℕ) (d : RowInfo) → AreRows sets1 sets2 (map (form_row sets1 sets2 0 0) rows) → i < length rows
+    → IsNextRow sets1 sets2 (form_row sets1 sets2 most1 most2 (get_or rows i d))
+row_next sets1 sets2 rows i most1 most2 d ok l =
+    let none : FormRow = form_row sets1 sets2 0 0 d in
+    let there = subst (IsNextRow sets1 sets2) (get_or-map (form_row sets1 sets2 0 0) rows i d none l) (ok i none (subst (λ n. i < n) (sym (length-map rows (form_row sets1 sets2 0 0))) l)) in
+    record { one = there.one; two = there.two }

@@ -1,0 +1,16 @@
+-- The history before the last step of another.
+use Rattle.std.specs.Prelude.{ℕ, ◌≡◌, ◌<◌, [], ◌∷◌, ◌++◌, true, slice_index_or}
+use Rattle.lab_defs_text.specs.Games.{GameModel}
+use Rattle.lab_defs_game.specs.Histories.{History, histories}
+use Rattle.lab_defs_game.specs.Sets.{Item, seen}
+use Rattle.lab_seen.specs.Firsts.{is_inner}
+
+-- the history with a number
+abbrev pub history_at : GameModel → ℕ → History
+history_at g n = slice_index_or (histories g) n []
+
+-- the history p stands before the history n, is not terminal, and what a seat has seen at n is this item more
+pub record IsBehind (g : GameModel) (seat n p : ℕ) (x : Item) : Type 0 where
+  pub before : p < n
+  pub inner : is_inner g (history_at g p) ≡ true
+  pub made : seen g seat (history_at g n) ≡ seen g seat (history_at g p) ++ x ∷ []

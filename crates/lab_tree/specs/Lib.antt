@@ -1,0 +1,14 @@
+pub mod Behind
+pub mod Keyed
+pub mod NodeValues
+pub mod Ranks
+pub mod SetKeys
+pub mod SetValues
+pub mod TreeParts
+pub mod Trees
+pub mod Ends
+pub mod TreeForms
+pub mod Ways
+pub mod Places
+pub mod Paths
+pub mod WayLaws

@@ -1,0 +1,18 @@
+//! Laws of trees.
+
+ghost use Rattle.lab_tree.specs.TreeForms.{FormPartsLaw, FormLaw};
+ghost use Rattle.lab_tree.specs.WayLaws.{WayLaw, AtNodesLaw, GroupedLaw, PathsLaw};
+
+/// The sets and rows of a game's tree make a form, and this is the game's, its rows by their nodes.
+pub fn forms()
+    ensures parts { FormPartsLaw }
+    ensures form { FormLaw }
+{}
+
+/// Nodes follow earlier ones, sets stand where those of their nodes begin, those that follow the same step at the same node stand side by side, and what stands on ways are the items of paths.
+pub fn ways()
+    ensures ways { WayLaw }
+    ensures nodes { AtNodesLaw }
+    ensures grouped { GroupedLaw }
+    ensures paths { PathsLaw }
+{}

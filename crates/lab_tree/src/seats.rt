@@ -1,0 +1,64 @@
+//! The sets of each seat, and the nodes, of a game.
+
+ghost use Rattle.std.specs.Prelude.{◌≡◌, ◌⊎◌, None, IfOk};
+ghost use Rattle.lab_defs_game.specs.Recall.{recall_fault};
+ghost use Rattle.lab_defs_game.specs.Unfolding.{unfold_fault};
+ghost use Rattle.lab_world.specs.Games.{game_model};
+ghost use Rattle.lab_unfold.specs.Values.{unfolded};
+ghost use Rattle.lab_tree.specs.NodeValues.{nodes_in};
+ghost use Rattle.lab_tree.specs.SetValues.{sets_in};
+ghost use Rattle.lab_tree.specs.TreeParts.{paths_in};
+
+use super::nodes::Nodes;
+use super::paths::SeatPaths;
+use super::sets::SeatSets;
+use lab_seen::{first_of_nodes, first_of_sets};
+use lab_unfold::Histories;
+use lab_world::Game;
+use std::alloc::{AllocError, Global};
+
+/// The nodes of a game.
+pub fn nodes_of(alloc: Global, game: &Game, histories: &Histories) -> Result<Nodes, AllocError>
+    requires unfolded { histories.now ≡ unfolded (game_model game.now) }
+    ensures { IfOk result (λ n. n ≡ nodes_in (game_model game.now)) }
+{
+    let firsts = first_of_nodes(alloc, game, histories)?;
+    Nodes::build(alloc, game, histories, firsts.as_slice())
+}
+
+/// The sets of a seat, 1 or 2.
+pub fn sets_of(
+    alloc: Global,
+    game: &Game,
+    histories: &Histories,
+    seat: u32,
+    nodes: &Nodes,
+) -> Result<SeatSets, AllocError>
+    requires unfolded { histories.now ≡ unfolded (game_model game.now) }
+    requires accepted { unfold_fault (game_model game.now) ≡ None }
+    requires recall { recall_fault (game_model game.now) ≡ None }
+    requires seat { (seat ≡ 1) ⊎ (seat ≡ 2) }
+    requires nodes { nodes.now ≡ nodes_in (game_model game.now) }
+    ensures { IfOk result (λ s. s ≡ sets_in (game_model game.now) seat) }
+{
+    let firsts = first_of_sets(alloc, game, histories, seat)?;
+    SeatSets::build(alloc, game, histories, seat, firsts.as_slice(), nodes)
+}
+
+/// What stands on the paths of a seat, 1 or 2.
+pub fn paths_of(
+    alloc: Global,
+    game: &Game,
+    seat: u32,
+    nodes: &Nodes,
+    sets: &SeatSets,
+) -> Result<SeatPaths, AllocError>
+    requires accepted { unfold_fault (game_model game.now) ≡ None }
+    requires nodes { nodes.now ≡ nodes_in (game_model game.now) }
+    requires sets { sets.now ≡ sets_in (game_model game.now) seat }
+    ensures { IfOk result (λ p. p ≡ paths_in (game_model game.now) seat) }
+{
+    let _ = game;
+    let _ = seat;
+    SeatPaths::build(alloc, sets.sets(), sets.starts(), nodes.parents())
+}
