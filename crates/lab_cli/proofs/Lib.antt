@@ -1,14 +1,11 @@
 pub mod Collecting
+pub mod CountLemmas
+pub mod FaultLemmas
 pub mod FoundLemmas
 pub mod LineCuts
-pub mod OneStepHistories
-pub mod OneStepLemmas
 pub mod PieceLemmas
-pub mod PlainGames
-pub mod PlainLemmas
 pub mod RefusalLemmas
 pub mod ReplyLemmas
-pub mod RowSums
 pub mod RunLemmas
-pub mod WeightLemmas
+pub mod SplitLemmas
 pub mod WriteLemmas

@@ -1,8 +1,9 @@
 pub mod Asked
+pub mod Counted
 pub mod CutLines
 pub mod GameParts
 pub mod ModeNames
-pub mod OneStep
+pub mod EvenSplits
 pub mod Runs
 pub mod Statuses
 pub mod Stops

@@ -5,4 +5,5 @@ use Rattle.lab_cli.specs.declared.mode.Mode.TheVariants as mode
 
 abbrev pub mode_model : Mode → model.Mode
 mode_model mode.Session = model.session
+mode_model mode.Check = model.check
 mode_model mode.Print = model.print

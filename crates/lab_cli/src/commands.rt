@@ -3,7 +3,6 @@ ghost use Rattle.std.specs.Prelude.{◌≡◌, ◌≤◌, ◌<◌, ◌+◌, ◌�
 ghost use Rattle.std.specs.List.{list_any};
 ghost use Rattle.lab_defs_text.specs.Words.{lines};
 ghost use Rattle.lab_defs_text.specs.Lines.{joined};
-ghost use Rattle.lab_defs_report.specs.Plain.{is_plain};
 ghost use Rattle.lab_defs_report.specs.States.{uniform_reply};
 ghost use Rattle.lab_defs_report.specs.Answers.{following};
 ghost use Rattle.lab_defs_report.specs.Sessions.{last_answer};
@@ -19,26 +18,25 @@ ghost use Rattle.lab_defs_report.specs.Refusals.{Refusal};
 
 use crate::expectation::expect_uniform;
 use crate::pieces::cut;
+use crate::playable::Playable;
 use crate::refusals::{refused, refused_lex, refused_word};
 use crate::stop::Stop;
 use lab_commands::{Command, command_at};
 use lab_io::LINE_LIMIT;
 use lab_text::{LineFault, push_line};
 use lab_units::write_fraction;
-use lab_world::Game;
 use std::alloc::{AllocError, Global};
 
 /// What is written for all that stands behind a game whose last line has the number `done`.
-pub fn answers(alloc: Global, done: u32, game: &Game, behind: &[u8]) -> Result<Vec<u8>, Stop>
-    requires plain { is_plain (game_model game.now) ≡ true }
+pub fn answers(alloc: Global, done: u32, played: &Playable, behind: &[u8]) -> Result<Vec<u8>, Stop>
     requires done { done ≤ 16777216 }
     requires behind { length behind.now ≤ commands_limit }
-    ensures { Says ⊥ (λ a. a ≡ commands_answer true done (game_model game.now) (lines behind.now)) result }
+    ensures { Says ⊥ (λ a. a ≡ commands_answer true done (game_model played.now.game) (lines behind.now)) result }
 {
     if has_long_line(behind) {
         return Err(refused(alloc, 0, b"NotBuilt", &[]));
     }
-    let uniform = uniform_line(alloc, game)?;
+    let uniform = uniform_line(alloc, played)?;
     replies(alloc, done, uniform.as_slice(), behind)
 }
 
@@ -151,12 +149,12 @@ fn has_long_line(behind: &[u8]) -> bool
 }
 
 // The reply to `expect uniform`.
-fn uniform_line(alloc: Global, game: &Game) -> Result<Vec<u8>, AllocError>
-    requires { is_plain (game_model game.now) ≡ true }
-    ensures { IfOk result (λ line. line.items ≡ joined (uniform_reply (game_model game.now)) ++ 10 ∷ []) }
+fn uniform_line(alloc: Global, played: &Playable) -> Result<Vec<u8>, AllocError>
+    ensures { IfOk result (λ line. line.items ≡ joined (uniform_reply (game_model played.now.game)) ++ 10 ∷ []) }
 {
+    let fraction = expect_uniform(alloc, played)?;
     let mut digits = [0u8; 96];
-    let len = write_fraction(&expect_uniform(game), &mut digits);
+    let len = write_fraction(&fraction, &mut digits);
     let mut line = Vec::new(alloc);
     push_line(&mut line, b"expect", &[&digits[..len]])?;
     Ok(line)

@@ -1,12 +1,16 @@
 //! The modes and commands of the program.
 #![tactic(auto)]
 
+mod check;
 mod commands;
+mod counts;
+mod ending;
 mod expectation;
+mod game_faults;
 mod game_part;
 mod mode;
 mod pieces;
-mod plain;
+mod playable;
 mod print;
 mod program;
 mod refusals;

@@ -9,6 +9,8 @@ ghost use Rattle.lab_cli.specs.ModeNames.{mode_model};
 pub enum Mode {
     /// Answers the commands behind a game.
     Session,
+    /// Counts the histories, nodes and information sets of a game.
+    Check,
     /// Writes the canonical text of a game.
     Print,
 }
@@ -29,6 +31,9 @@ fn mode_named(word: &[u8]) -> Option<Mode>
 {
     if word == b"session".as_slice() {
         return Some(Mode::Session);
+    }
+    if word == b"check".as_slice() {
+        return Some(Mode::Check);
     }
     if word == b"print".as_slice() {
         return Some(Mode::Print);

@@ -9,6 +9,7 @@ ghost use Rattle.lab_cli.specs.Stops.{Says, Found, Advances};
 ghost use Rattle.lab_cli.specs.ModeNames.{mode_model};
 ghost use Rattle.lab_cli.specs.Writes.{Writes, answer_text, answer_status};
 
+use crate::check::check;
 use crate::mode::{Mode, mode_of};
 use crate::print::print;
 use crate::session::session;
@@ -59,6 +60,7 @@ fn answer<S: Source>(alloc: Global, mode: Mode, source: &mut S) -> Result<Vec<u8
     };
     match mode {
         Mode::Session => session(alloc, &mut reader, source),
+        Mode::Check => check(alloc, &mut reader, source),
         Mode::Print => print(alloc, &mut reader, source),
     }
 }

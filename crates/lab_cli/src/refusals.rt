@@ -44,12 +44,26 @@ fn push_number(out: &mut Vec<u8>, number: u32) -> Result<(), AllocError>
     Ok(())
 }
 
-/// A refusal at a word of a line.
-pub fn refused_word(alloc: Global, line: u32, code: &[u8], place: u32) -> Stop
-    ensures { IsRefusal (refusal_of line code.now (numeral place ∷ [])) result }
+/// A refusal with a number for its one further word.
+pub fn refused_word(alloc: Global, line: u32, code: &[u8], number: u32) -> Stop
+    ensures { IsRefusal (refusal_of line code.now (numeral number ∷ [])) result }
 {
     let mut digits = Buffer::new();
-    refused(alloc, line, code, &[digits.format(place).as_bytes()])
+    refused(alloc, line, code, &[number_word(number, &mut digits)])
+}
+
+/// A number as a word.
+pub fn number_word<'a>(number: u32, digits: &'a mut Buffer) -> &'a [u8]
+    ensures { result.now ≡ numeral number }
+{
+    digits.format(number).as_bytes()
+}
+
+/// A scale of chances as a word.
+pub fn scale_word<'a>(scale: u128, digits: &'a mut Buffer) -> &'a [u8]
+    ensures { result.now ≡ numeral scale }
+{
+    digits.format(scale).as_bytes()
 }
 
 /// A word of a line that is wrong in itself.

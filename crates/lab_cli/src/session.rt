@@ -10,10 +10,9 @@ ghost use Rattle.lab_cli.specs.GameParts.{NotAll};
 
 use crate::commands::answers;
 use crate::game_part::GamePart;
-use crate::plain::is_plain;
+use crate::playable::played_game;
 use crate::refusals::refused;
 use crate::stop::Stop;
-use crate::text_faults::game_of;
 use lab_io::{LineReader, ReadStop, Source};
 use std::alloc::Global;
 
@@ -34,12 +33,9 @@ pub fn session<S: Source>(
     ensures later { S.faults source.old ≤ S.faults source.new }
 {
     let part = GamePart::read(alloc, reader, source)?;
-    let game = game_of(alloc, part.text.as_slice())?;
-    if !is_plain(&game) {
-        return Err(refused(alloc, part.done, b"NotBuilt", &[]));
-    }
+    let played = played_game(alloc, part.text.as_slice(), part.done)?;
     let behind = all_behind(alloc, reader, source)?;
-    answers(alloc, part.done, &game, behind.as_slice())
+    answers(alloc, part.done, &played, behind.as_slice())
 }
 
 // All bytes behind a game.

@@ -9,10 +9,10 @@ use Rattle.lab_defs_text.specs.Games.{GameModel}
 use Rattle.lab_defs_report.specs.Refusals.{Refusal}
 use Rattle.lab_defs_report.specs.Cuts.{line_limit, commands_limit, Cut, cut_at, cut_refused, cut_open, goes_on}
 use Rattle.lab_defs_report.specs.Answers.{Answer, silent, refusing}
-use Rattle.lab_defs_report.specs.GameModes.{game_answer, print_cut, read_text}
+use Rattle.lab_defs_report.specs.GameModes.{game_answer, check_cut, counts_line, playable, print_cut, read_text}
 use Rattle.lab_defs_report.specs.Modes as mode
 use Rattle.lab_defs_report.specs.Modes.{Mode, cut}
-use Rattle.lab_defs_report.specs.Reports.{built_answer, built_mode, session_answer, commands_answer, taken_game, is_too_long}
+use Rattle.lab_defs_report.specs.Reports.{built_answer, built_mode, session_answer, commands_answer, is_too_long}
 use Rattle.lab_defs_report.specs.Laws.{IsFront, FrontLaw}
 use Rattle.lab_defs_report.proofs.CutLemmas.{continued, continued_some, GoesOn, cut_goes_on, lines_append, lines_some}
 use Rattle.lab_defs_text.specs.Texts.{canonical}
@@ -100,6 +100,13 @@ print_stays ended ys (cut_at text n ls) d e =
 print_stays ended ys (cut_refused r) d e = inr (ap (print_cut ended) e)
 print_stays ended ys cut_open d e = inl refl
 
+check_stays : (ended : Bool) (ys : List Bytes) (c d : Cut) → GoesOn c ys d → Stays (check_cut false c) (check_cut ended d)
+check_stays ended ys (cut_at text n ls) d e =
+    subst (λ x. Stays (check_cut false (cut_at text n ls)) (check_cut ended x)) (sym e)
+    (game_stays ended n ls ys (elim (playable text n) [ Ok g ↦ Ok (counts_line g) | Err r ↦ Err r ]))
+check_stays ended ys (cut_refused r) d e = inr (ap (check_cut ended) e)
+check_stays ended ys cut_open d e = inl refl
+
 taken_stays : (ended : Bool) (n : ℕ) (ls ys : List Bytes) (found : Result GameModel Refusal)
     → Stays (elim found [ Ok g ↦ commands_answer false n g ls | Err r ↦ refusing r ]) (elim found [ Ok g ↦ commands_answer ended n g (continued ls ys) | Err r ↦ refusing r ])
 taken_stays ended n ls ys (Ok g) = commands_stay ended n ls ys g
@@ -107,7 +114,7 @@ taken_stays ended n ls ys (Err r) = inr refl
 
 session_stays : (ended : Bool) (ys : List Bytes) (c d : Cut) → GoesOn c ys d → Stays (session_answer false c) (session_answer ended d)
 session_stays ended ys (cut_at text n ls) d e =
-    subst (λ x. Stays (session_answer false (cut_at text n ls)) (session_answer ended x)) (sym e) (taken_stays ended n ls ys (taken_game text n))
+    subst (λ x. Stays (session_answer false (cut_at text n ls)) (session_answer ended x)) (sym e) (taken_stays ended n ls ys (playable text n))
 session_stays ended ys (cut_refused r) d e = inr (ap (session_answer ended) e)
 session_stays ended ys cut_open d e = inl refl
 
@@ -119,7 +126,7 @@ input_goes_on ended xs ys = rw (lines_append xs ys) (cut_goes_on ended 1 [] (lin
 pub answer_stays : (ended : Bool) (m : Option Mode) (xs ys : Bytes) → Stays (built_answer false xs m) (built_answer ended (xs ++ ys) m)
 answer_stays ended None xs ys = inr refl
 answer_stays ended (Some mode.session) xs ys = session_stays ended (lines ys) (cut false xs) (cut ended (xs ++ ys)) (input_goes_on ended xs ys)
-answer_stays ended (Some mode.check) xs ys = inr refl
+answer_stays ended (Some mode.check) xs ys = check_stays ended (lines ys) (cut false xs) (cut ended (xs ++ ys)) (input_goes_on ended xs ys)
 answer_stays ended (Some mode.print) xs ys = print_stays ended (lines ys) (cut false xs) (cut ended (xs ++ ys)) (input_goes_on ended xs ys)
 answer_stays ended (Some mode.verify) xs ys = inr refl
 answer_stays ended (Some (mode.generate kind size)) xs ys = inr refl

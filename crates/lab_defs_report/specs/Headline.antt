@@ -1,5 +1,5 @@
 -- The promise of a session, over the states that its commands give.
-use Rattle.std.specs.Prelude.{◌≡◌, ℕ, ◌+◌, ◌<◌, ◌≤ℤ◌, List, [], ◌∷◌, length, slice_index, slice_index_or, Bool, true, false, ◌↔◌, Some, None, Ok, ◌⊎◌}
+use Rattle.std.specs.Prelude.{◌≡◌, ℕ, ◌<◌, ◌≤ℤ◌, List, [], ◌∷◌, length, slice_index, slice_index_or, Bool, true, false, ◌↔◌, Some, None, Ok, ◌⊎◌}
 use Rattle.std.specs.Str.{bytes_eq}
 use lib.Chars.{codes}
 use Rattle.lab_defs_text.specs.Words.{Bytes}

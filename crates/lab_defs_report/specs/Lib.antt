@@ -1,4 +1,3 @@
-pub mod Plain
 pub mod Commands
 pub mod CertificateTexts
 pub mod Walks

@@ -1,4 +1,4 @@
--- What the program answers today: the mode `print`, and the mode `session` on plain games with one command.
+-- What the program answers today: the modes `check` and `print`, and the mode `session` with one command.
 use Rattle.std.specs.Prelude.{ℕ, ◌+◌, List, [], ◌∷◌, ◌++◌, length, Bool, true, false, ◌||◌, nat_lt, if◌then◌else◌, Option, Some, None, Result, Ok, Err}
 use Rattle.std.specs.List.{list_any, join_with_byte}
 use Rattle.std.specs.Str.{bytes_eq}
@@ -6,28 +6,24 @@ use lib.Chars.{codes}
 use Rattle.lab_defs_text.specs.Words.{Bytes}
 use Rattle.lab_defs_text.specs.Lines.{joined}
 use Rattle.lab_defs_text.specs.Games.{GameModel}
-use Rattle.lab_defs_report.specs.Plain.{is_plain}
 use Rattle.lab_defs_report.specs.Commands.{Command, expect_uniform, command_at}
 use Rattle.lab_defs_report.specs.States.{uniform_reply}
 use Rattle.lab_defs_report.specs.Refusals.{Refusal, refused, refused_in_line}
 use Rattle.lab_defs_report.specs.Cuts.{line_limit, commands_limit, Cut, cut_at, cut_refused, cut_open}
 use Rattle.lab_defs_report.specs.Answers.{Answer, answer, silent, refusing, following}
-use Rattle.lab_defs_report.specs.GameModes.{read_text, print_cut}
+use Rattle.lab_defs_report.specs.GameModes.{playable, check_cut, print_cut}
 use Rattle.lab_defs_report.specs.Sessions.{last_answer}
-use Rattle.lab_defs_report.specs.Modes.{Mode, session, print, cut, usage_line}
+use Rattle.lab_defs_report.specs.Modes.{Mode, session, check, print, cut, usage_line}
 
 -- the modes that are built
 abbrev pub built_mode : List Bytes → Option Mode
-built_mode (w ∷ []) = if bytes_eq w (codes "session") then Some session else if bytes_eq w (codes "print") then Some print else None
+built_mode (w ∷ []) =
+    if bytes_eq w (codes "session") then Some session else if bytes_eq w (codes "check") then Some check else if bytes_eq w (codes "print") then Some print else None
 built_mode _ = None
 
 -- the refusal of what is not built
 abbrev pub not_built : ℕ → Refusal
 not_built line = refused line (codes "NotBuilt") []
-
--- a game that a session takes: a plain one
-abbrev pub taken_at : ℕ → GameModel → Result GameModel Refusal
-taken_at line g = if is_plain g then Ok g else Err (not_built line)
 
 -- the reply to a command, or its refusal
 abbrev pub reply_of : ℕ → GameModel → Command → Result Bytes Refusal
@@ -53,18 +49,15 @@ is_too_long behind = nat_lt commands_limit (length (join_with_byte 10 behind)) |
 abbrev pub commands_answer : Bool → (done : ℕ) → GameModel → List Bytes → Answer
 commands_answer ended done g behind = if is_too_long behind then refusing (not_built 0) else if ended then replies_from done 1 g behind else silent
 
--- the game of a text that a session takes, or its refusal
-abbrev pub taken_game : Bytes → ℕ → Result GameModel Refusal
-taken_game text line = elim (read_text text) [ Ok g ↦ taken_at line g | Err r ↦ Err r ]
-
 abbrev pub session_answer : Bool → Cut → Answer
-session_answer ended (cut_at text line behind) = elim (taken_game text line) [ Ok g ↦ commands_answer ended line g behind | Err r ↦ refusing r ]
+session_answer ended (cut_at text line behind) = elim (playable text line) [ Ok g ↦ commands_answer ended line g behind | Err r ↦ refusing r ]
 session_answer ended (cut_refused r) = refusing r
 session_answer ended cut_open = silent
 
 -- what is written for an input, read to its end or not
 abbrev pub built_answer : Bool → Bytes → Option Mode → Answer
 built_answer ended input (Some session) = session_answer ended (cut ended input)
+built_answer ended input (Some check) = check_cut ended (cut ended input)
 built_answer ended input (Some print) = print_cut ended (cut ended input)
 built_answer ended input _ = answer usage_line
 

@@ -13,6 +13,7 @@ pub mod HoldsTests
 pub mod Pools
 pub mod Passing
 pub mod Splicing
+pub mod Splitting
 pub mod Enclosure
 pub mod Safety
 pub mod FormTests

@@ -57,7 +57,7 @@ counted q r a (suc n) l = at (cases_lt a r) (counted q r (a + 1) n (omega (arith
     at (inr le) e = ap (λ b. (q + cond b 1 0) + sum_over (λ i. q + (if nat_lt i r then 1 else 0)) (range_with_len (a + 1) n)) (le-ltb a r le) ∙ omega (arith, e, le)
 
 -- the weight of an action of a deciding set
-weight_is : (grid : ℕ) (actions : List ℕ) (set a : ℕ) → set < length actions → decides actions set ≡ true → a < slice_index actions set
+pub weight_is : (grid : ℕ) (actions : List ℕ) (set a : ℕ) → set < length actions → decides actions set ≡ true → a < slice_index actions set
     → slice_index (uniform_table grid actions) (first_weight actions set + a) ≡ grid / slice_index actions set + (if nat_lt a (grid % slice_index actions set) then 1 else 0)
 weight_is grid actions set a l d la =
     let n = slice_index actions set in

@@ -29,7 +29,7 @@ use Rattle.lab_defs_value.specs.WholeLaws.{SumsToGrid, own_of, WholeLaw}
 -- ---- products and powers
 
 -- one more factor
-product_push : {X : Type 0} (f : X → ℕ) (xs : List X) (x : X) → product_over f (xs ++ x ∷ []) ≡ product_over f xs * f x
+pub product_push : {X : Type 0} (f : X → ℕ) (xs : List X) (x : X) → product_over f (xs ++ x ∷ []) ≡ product_over f xs * f x
 product_push f [] x = omega arith
 product_push f (y ∷ xs) x = omega (arith, ap (λ n. f y * n) (product_push f xs x))
 

@@ -1,4 +1,5 @@
 pub mod Rounding
+pub mod Splits
 pub mod Tables
 pub mod Expectation
 pub mod Parents

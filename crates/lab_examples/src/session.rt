@@ -1,8 +1,9 @@
-//! What the program writes today in the mode `session`.
+//! What the program writes today in the modes `session` and `check`.
 ghost use Rattle.std.specs.Prelude.{◌≡◌, ◌++◌, ◌∷◌, []};
 ghost use lib.Chars.{codes};
 ghost use Rattle.lab_defs_report.specs.Reports.{report_of, replies_of};
-ghost use Rattle.lab_examples.specs.Inputs.{text, session, pennies, fork};
+ghost use Rattle.lab_examples.specs.Inputs.{text, session, check, pennies, fork};
+ghost use Rattle.lab_examples.specs.Texts.{loop};
 
 /// Matching pennies on a grid of 2 is fair.
 pub fn pennies_on_an_even_grid()
@@ -29,9 +30,19 @@ pub fn empty()
     ensures { report_of session [] ≡ text (codes "refused 1 CutShort" ∷ []) }
 {}
 
-/// A game of more than one step is not taken.
-pub fn fork_is_not_plain()
-    ensures { report_of session fork ≡ text (codes "refused 36 NotBuilt" ∷ []) }
+/// Chance, and a choice of the second seat, come before that of the first.
+pub fn fork_with_even_splits()
+    ensures { report_of session (fork ++ text (codes "expect uniform" ∷ [])) ≡ text (codes "expect -5/6" ∷ []) }
+{}
+
+/// A game that does not end is refused at its last line, before any command.
+pub fn no_end()
+    ensures { report_of session (loop ++ text (codes "expect uniform" ∷ [])) ≡ text (codes "refused 12 HorizonPassed a" ∷ []) }
+{}
+
+/// The histories, nodes, sets, decisions and the scale are counted.
+pub fn counts_of_fork()
+    ensures { report_of check fork ≡ text (codes "game histories 8 nodes 4 sets 2 3 most 1 1 scale 2" ∷ []) }
 {}
 
 /// Another command is not built, whatever stood before.

@@ -3,3 +3,19 @@
 
 #[cfg(test)]
 mod cases;
+#[cfg(test)]
+mod checks;
+#[cfg(test)]
+mod dice;
+#[cfg(test)]
+mod kuhn;
+#[cfg(test)]
+mod leduc;
+#[cfg(test)]
+mod prints;
+#[cfg(test)]
+mod sessions;
+#[cfg(test)]
+mod texts;
+#[cfg(test)]
+mod turns;

@@ -1,0 +1,43 @@
+use Rattle.std.proofs.Common.{Some, sym, ap, ◌∙◌, subst}
+use Rattle.lab_defs_report.specs.GameModes.{playable}
+use Rattle.lab_defs_report.specs.Modes.{check}
+use Rattle.lab_world.specs.Games.{game_model}
+use Rattle.lab_cli.specs.Stops.{Denies, Found}
+use Rattle.lab_cli.proofs.Collecting.{advances_both, rose_earlier}
+use Rattle.lab_io.specs.Causes.{Rose}
+use Rattle.lab_cli.proofs.FoundLemmas.{check_refuses, says_passed, says_cut_off, says_game, says_extra, found_alone, check_alone, check_found}
+use Rattle.lab_cli.proofs.check.check.Goals as goal
+
+pub returns-in_err-part-clause-says : goal.returns-in_err-part-clause-says
+returns-in_err-part-clause-says g c =
+    says_passed (Rose (g.S.Source.faults c.args.source.now) (g.S.Source.faults c.read.new.source)) (Found (Some check) (g.S.Source.left c.args.source.now) (g.S.Source.left c.read.new.source)) c.in_err-part.field-0.0 _ c.from_residual.ensures (says_cut_off (Rose (g.S.Source.faults c.args.source.now) (g.S.Source.faults c.read.new.source)) check playable (g.S.Source.left c.args.source.now) (g.S.Source.left c.read.new.source) c.in_err-part.field-0.0 check_refuses c.in_err-part.ensures.stop)
+
+pub returns-in_err-played-clause-says : goal.returns-in_err-played-clause-says
+returns-in_err-played-clause-says g c =
+    says_passed (Rose (g.S.Source.faults c.args.source.now) (g.S.Source.faults c.read.new.source)) (Found (Some check) (g.S.Source.left c.args.source.now) (g.S.Source.left c.read.new.source)) c.in_err-played.field-0.0 _ c.from_residual-in_err-played.ensures
+    (says_game (Rose (g.S.Source.faults c.args.source.now) (g.S.Source.faults c.read.new.source)) check playable (g.S.Source.left c.args.source.now) c.read.new.reader.ahead (g.S.Source.left c.read.new.source) c.in_ok-part.part.text.items c.in_ok-part.part.done c.in_err-played.field-0.0 check_refuses
+    c.in_ok-part.ensures.part (subst (λ t. Denies (playable t c.in_ok-part.part.done) c.in_err-played.field-0.0) c.as_slice.ensures.value c.in_err-played.ensures))
+
+pub returns-in_err-check_end-clause-says : goal.returns-in_err-check_end-clause-says
+returns-in_err-check_end-clause-says g c =
+    says_passed (Rose (g.S.Source.faults c.args.source.now) (g.S.Source.faults c.check_end.new.source)) (Found (Some check) (g.S.Source.left c.args.source.now) (g.S.Source.left c.check_end.new.source)) c.in_err-check_end.field-0.0 _ c.from_residual-in_err-check_end.ensures
+    (says_extra (Rose (g.S.Source.faults c.args.source.now) (g.S.Source.faults c.check_end.new.source)) (Rose (g.S.Source.faults c.read.new.source) (g.S.Source.faults c.check_end.new.source)) check (g.S.Source.left c.args.source.now) c.read.new.reader.ahead (g.S.Source.left c.read.new.source) (g.S.Source.left c.check_end.new.source) c.in_ok-part.part.text.items c.in_ok-part.part.done c.in_err-check_end.field-0.0
+    c.in_ok-part.ensures.part (check_alone c.in_ok-part.part.text.items c.in_ok-part.part.done (game_model c.in_ok-played.played.game) (ap (λ t. playable t c.in_ok-part.part.done) (sym c.as_slice.ensures.value) ∙ c.in_ok-played.ensures)) c.in_err-check_end.ensures.stop (rose_earlier _ _ _ c.in_ok-part.ensures.later))
+
+pub returns-in-Ok-clause-says : goal.returns-in-Ok-clause-says
+returns-in-Ok-clause-says g c =
+    found_alone check (g.S.Source.left c.args.source.now) c.read.new.reader.ahead (g.S.Source.left c.read.new.source) c.check_end.new.reader.ahead (g.S.Source.left c.check_end.new.source) c.in_ok-part.part.text.items c.in_ok-part.part.done c.in-Ok.line.items
+    c.in_ok-part.ensures.part (check_found c.in_ok-part.part.text.items c.in_ok-part.part.done (game_model c.in_ok-played.played.game) c.in-Ok.line.items (ap (λ t. playable t c.in_ok-part.part.done) (sym c.as_slice.ensures.value) ∙ c.in_ok-played.ensures) c.in-Ok.ensures)
+    c.in_ok-check_end.ensures.takes c.in_ok-check_end.ensures.end
+
+pub returns-in_err-check_end-clause-advances : goal.returns-in_err-check_end-clause-advances
+returns-in_err-check_end-clause-advances g c =
+    advances_both (g.S.Source.left c.args.source.now) (g.S.Source.left c.read.new.source) (g.S.Source.left c.check_end.new.source) c.in_ok-part.ensures.advances c.check_end.ensures.advances
+
+pub returns-in-Ok-clause-advances : goal.returns-in-Ok-clause-advances
+returns-in-Ok-clause-advances g c =
+    advances_both (g.S.Source.left c.args.source.now) (g.S.Source.left c.read.new.source) (g.S.Source.left c.check_end.new.source) c.in_ok-part.ensures.advances c.check_end.ensures.advances
+
+pub returns-clause-advances : goal.returns-clause-advances
+returns-clause-advances g c =
+    advances_both (g.S.Source.left c.args.source.now) (g.S.Source.left c.read.new.source) (g.S.Source.left c.check_end.new.source) c.in_ok-part.ensures.advances c.check_end.ensures.advances
