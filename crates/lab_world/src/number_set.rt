@@ -1,5 +1,5 @@
 //! Sets of numbers.
-ghost use Rattle.std.specs.Prelude.{◌≡◌, ◌<◌, ◌^◌, ◌==◌, ◌++◌, ◌∷◌, [], length, position, false, nat_eq, IfSome, OnOk};
+ghost use Rattle.std.specs.Prelude.{◌≡◌, ◌<◌, ◌^◌, ◌++◌, ◌∷◌, [], position, false, nat_eq, IfSome, OnOk};
 ghost use Rattle.std.specs.List.{list_any};
 
 use indexmap::IndexSet;
@@ -39,13 +39,6 @@ impl NumberSet {
         ensures { result ≡ list_any (nat_eq number) self.now }
     {
         self.first.contains(&number) || self.others.contains(&number)
-    }
-
-    /// Whether there is no number.
-    pub fn is_empty(&self) -> bool
-        ensures { result ≡ (length self.now == 0) }
-    {
-        self.first.is_empty() && self.others.is_empty()
     }
 
     /// The place of a number, where it is there.

@@ -1,5 +1,5 @@
 //! Numbers of rows that mostly come in order.
-ghost use Rattle.std.specs.Prelude.{◌≡◌, ◌++◌, ◌∷◌, [], position, false, nat_eq, OnOk};
+ghost use Rattle.std.specs.Prelude.{◌≡◌, ◌++◌, ◌∷◌, [], position, false, nat_eq, OnOk, IfOk};
 ghost use Rattle.std.specs.List.{list_any};
 
 use super::number_set::NumberSet;
@@ -10,17 +10,19 @@ use std::marker::Model;
 /// order take no memory.
 #[derive(Drop)]
 pub struct RowNumbers {
+    alloc: Global,
     in_order: u32,
-    others: NumberSet,
+    others: Option<Box<NumberSet>>,
 }
 
 impl Model for RowNumbers {
-    ghost use Rattle.std.specs.Prelude.{ℕ, List, ◌++◌};
+    ghost use Rattle.std.specs.Prelude.{ℕ, List, [], ◌++◌};
+    ghost use Rattle.std.specs.Option.{option_map_or};
     ghost use Rattle.std.specs.List.{range_with_len};
 
     ghost Value = { List ℕ };
 
-    ghost view = { λ s. range_with_len 0 s.in_order ++ s.others };
+    ghost view = { λ s. range_with_len 0 s.in_order ++ option_map_or (λ b. b.value) s.others [] };
 }
 
 impl RowNumbers {
@@ -29,8 +31,9 @@ impl RowNumbers {
         ensures { result ≡ [] }
     {
         RowNumbers {
+            alloc,
             in_order: 0,
-            others: NumberSet::new(alloc),
+            others: None,
         }
     }
 
@@ -41,7 +44,10 @@ impl RowNumbers {
         if number < self.in_order as u64 {
             return true;
         }
-        self.others.contains(number)
+        match &self.others {
+            None => false,
+            Some(others) => others.contains(number),
+        }
     }
 
     /// The place of a number, where it is there.
@@ -51,8 +57,13 @@ impl RowNumbers {
         if number < self.in_order as u64 {
             return Some(number as usize);
         }
-        let place = self.others.find(number)?;
-        Some(self.in_order as usize + place)
+        match &self.others {
+            None => None,
+            Some(others) => {
+                let place = others.find(number)?;
+                Some(self.in_order as usize + place)
+            }
+        }
     }
 
     /// Adds a number that is not there.
@@ -60,10 +71,25 @@ impl RowNumbers {
         requires { list_any (nat_eq number) self.old ≡ false }
         ensures { OnOk result (self.new ≡ self.old ++ number ∷ []) }
     {
-        if number == self.in_order as u64 && number < u32::MAX as u64 && self.others.is_empty() {
-            self.in_order += 1;
-            return Ok(());
+        match &mut self.others {
+            None => {
+                if number == self.in_order as u64 && number < u32::MAX as u64 {
+                    self.in_order += 1;
+                    return Ok(());
+                }
+                self.others = Some(boxed_number(self.alloc, number)?);
+                Ok(())
+            }
+            Some(others) => others.add(number),
         }
-        self.others.add(number)
     }
+}
+
+// The set of one number.
+fn boxed_number(alloc: Global, number: u64) -> Result<Box<NumberSet>, AllocError>
+    ensures { IfOk result (λ b. b.value ≡ number ∷ []) }
+{
+    let mut numbers = NumberSet::new(alloc);
+    numbers.add(number)?;
+    Ok(Box::new(alloc, numbers)?)
 }
