@@ -100,6 +100,23 @@ mod tests {
         Ok(())
     }
 
+    #[test]
+    fn gives_what_was_read_ahead(rt: HostRuntime) -> Result<(), Fail> {
+        let alloc = rt.alloc();
+        let mut bytes = Vec::new(alloc);
+        bytes.extend_from_slice(b"ab\ncd\nef")?;
+        let mut source = MemSource::new(bytes, Vec::new(alloc));
+        let mut reader = LineReader::start(alloc)?;
+        reader.allow(3);
+        assert_eq!(rt; reader.next(&mut source)?, Took::Line);
+        assert!(rt; reader.ahead() == b"cd\nef".as_slice());
+        reader.allow(5);
+        reader.give(3);
+        assert!(rt; reader.line().is_empty());
+        assert!(rt; reader.rest(&mut source)?.as_slice() == b"ef".as_slice());
+        Ok(())
+    }
+
     // What the first line of the bytes comes to.
     fn first_line(alloc: Global, bytes: Vec<u8>, allowance: u64) -> Result<Took, ReadStop> {
         let mut source = MemSource::new(bytes, Vec::new(alloc));

@@ -4,10 +4,12 @@ ghost use Rattle.std.specs.Prelude.{
   ◌≡◌,
   ◌≤◌,
   ◌+◌,
+  ◌-◌,
   [],
   true,
   IsTrue,
   length,
+  drop,
   is_ok,
   IfOk,
   OnOk,
@@ -121,11 +123,34 @@ impl LineReader {
     }
 
     /// The line that the last call of `next` took, without its line feed. It is empty where that call
-    /// took none, and after `rest`.
+    /// took none, and after `give` and `rest`.
     pub fn line(&self) -> &[u8]
         ensures { result.now ≡ self.now.line }
     {
         self.line.as_slice()
+    }
+
+    /// The bytes that were read ahead and not given yet.
+    pub fn ahead(&self) -> &[u8]
+        ensures bytes { result.now ≡ self.now.ahead }
+        ensures short { length result.now ≤ READ_AHEAD }
+    {
+        self.ahead.bytes()
+    }
+
+    /// Gives the first bytes of those read ahead, which the caller has read there, and keeps no line.
+    pub fn give(&mut self, count: usize)
+        requires within { count ≤ length self.old.ahead }
+        requires paid { count ≤ self.old.allowance }
+        ensures { self.new ≡ record self.old {
+          ahead = drop count self.old.ahead;
+          line = [];
+          allowance = self.old.allowance - count;
+        } }
+    {
+        self.ahead.skip(count);
+        self.line.clear();
+        self.allowance -= count as u64;
     }
 
     /// Takes the next line, or finds the end of input where a line would begin. Where the reader

@@ -47,7 +47,8 @@ impl ReadAhead {
 
     /// The bytes, in order.
     pub fn bytes(&self) -> &[u8]
-        ensures { result.now ≡ self.now }
+        ensures bytes { result.now ≡ self.now }
+        ensures short { length result.now ≤ READ_AHEAD }
     {
         &self.buffer[self.from..self.to]
     }

@@ -11,18 +11,18 @@ returns-in_err-count-clause-stop g c =
     let kept = c.loop-ready.line.ok in
     let why = c.in_err-count.ensures.stop (g.S.Source.left c.fill.new.source) in
     let p = err_from_is_err_and c.from_residual.result c.from_residual.ensures.1 in
-    rw (p.1, p.2) (StoppedAfter-given _ (Takes-ahead c.loop-ready.invariant.given c.in-Ok.ensures.bytes) (omega arith) c.in-Ok.ensures.short (rw (← c.bytes.ensures) why))
+    rw (p.1, p.2) (StoppedAfter-given _ (Takes-ahead c.loop-ready.invariant.given c.in-Ok.ensures.bytes) (omega arith) c.in-Ok.ensures.short (rw (← c.bytes.ensures.bytes) why))
 
 pub returns-then-count-ready-clause-bytes : goal.returns-then-count-ready-clause-bytes
 returns-then-count-ready-clause-bytes g c =
-    let feed = rw c.bytes.ensures at c.in_ok-count.ensures.feed in
+    let feed = rw c.bytes.ensures.bytes at c.in_ok-count.ensures.feed in
     let within : c.in_ok-count.count < length c.fill.new.self = omega (arith, c.in-Ok.ensures.count) in
-    rw (c.skip.ensures, c.in_ok-count.ensures.items, c.bytes.ensures) (Takes-line c.in_ok-count.count (Takes-ahead c.loop-ready.invariant.given c.in-Ok.ensures.bytes) within (feed within))
+    rw (c.skip.ensures, c.in_ok-count.ensures.items, c.bytes.ensures.bytes) (Takes-line c.in_ok-count.count (Takes-ahead c.loop-ready.invariant.given c.in-Ok.ensures.bytes) within (feed within))
 
 pub loop-ready-preserved : goal.loop-ready-preserved
 loop-ready-preserved g c = record {
   within = grind (arith, common_steps);
   whole = c.in_ok-count.ensures.line;
   later = grind (arith, common_steps);
-  given = rw (c.skip-in-loop-ready.ensures, c.in_ok-count.ensures.items, c.bytes.ensures) (Takes-more c.in_ok-count.count (Takes-ahead c.loop-ready.invariant.given c.in-Ok.ensures.bytes));
+  given = rw (c.skip-in-loop-ready.ensures, c.in_ok-count.ensures.items, c.bytes.ensures.bytes) (Takes-more c.in_ok-count.count (Takes-ahead c.loop-ready.invariant.given c.in-Ok.ensures.bytes));
 }
