@@ -5,7 +5,7 @@ use Rattle.std.specs.Str.{bytes_eq}
 use Rattle.std.specs.Io.KnownBytes.{Consumes, IsAtEnd}
 use lib.Chars.{codes}
 use Rattle.lab_io.specs.Causes.{Rose}
-use Rattle.lab_io.specs.Reading.{Takes, StoppedAfter, LineStop, IsLine, IsEnd}
+use Rattle.lab_io.specs.Reading.{Reader, Takes, StoppedAfter, LineStop, IsLine, IsEnd}
 use Rattle.lab_io.specs.declared.line_reader.ReadStop.{ReadStop}
 use Rattle.lab_io.specs.declared.line_reader.ReadStop.TheVariants as read
 use Rattle.lab_io.proofs.Fronts.{Consumes-append}
@@ -19,6 +19,8 @@ use Rattle.lab_cli.specs.declared.stop.Stop.TheVariants as stop
 use Rattle.lab_cli.specs.Stops.{IsRefusal, Advances}
 use Rattle.lab_cli.specs.GameParts.{IsGamePart, CutsOff}
 use Rattle.lab_cli.specs.CutLines.{RefusesCut}
+use Rattle.lab_cli.specs.PlainLines.{GivesLines}
+use Rattle.lab_cli.proofs.PlainLemmas.{plain_cut, plain_few}
 use Rattle.lab_cli.proofs.LineCuts.{line_cut, ends_short, ends_inside, too_long_line, too_much}
 
 -- whole lines that came next, none of them `done`; the next one has the number n
@@ -50,6 +52,20 @@ collected_more old left new ahead rest text line n c t whole h other = record {
       ∙ line_cut ended n text line y whole h ∙ (rw other refl) ∙ ap (λ t. cut_from ended (n + 1) t (lines y)) (append_assoc text line (10 ∷ []));
   few = omega (arith, c.few, length-append text (line ++ 10 ∷ []), length-append line (10 ∷ []));
 }
+
+-- lines more, which a reader had ahead
+pub collected_lines : (old left : Option Bytes) (a b : Reader) (text more : Bytes) (n count : ℕ) → Collected old a.ahead left text n → a.allowance + length text ≡ game_limit → GivesLines a b text more count
+    → Collected old b.ahead left more (n + count)
+collected_lines old left a b text more n count c fits g =
+    subst (λ t. Collected old b.ahead left t (n + count)) (sym g.text) (record {
+      takes = record { taken = c.takes.taken; consumed = c.takes.consumed; split = c.takes.split ∙ ap (λ x. text ++ x) g.ahead ∙ sym (append_assoc text g.given b.ahead) };
+      cuts = λ ended y. ap (cut ended) (append_assoc text g.given y) ∙ c.cuts ended (g.given ++ y) ∙ plain_cut ended n count text g.given y g.lines g.short (omega (arith, fits, g.paid));
+      few = omega (arith, c.few, length-append text g.given, plain_few g.given count g.lines);
+    })
+
+-- what is allowed behind them
+pub lines_left : (a b : Reader) (text more : Bytes) (count : ℕ) → a.allowance + length text ≡ game_limit → GivesLines a b text more count → b.allowance + length more ≡ game_limit
+lines_left a b text more count fits g = omega (arith, fits, g.paid, ap length g.text, length-append text g.given)
 
 -- the line that is `done`
 pub part_found : (old left new : Option Bytes) (ahead rest text line : Bytes) (n : ℕ) → Collected old ahead left text n → Takes ahead left rest new (line ++ 10 ∷ []) → IsLine line

@@ -4,6 +4,7 @@ pub mod FaultLemmas
 pub mod FoundLemmas
 pub mod LineCuts
 pub mod PieceLemmas
+pub mod PlainLemmas
 pub mod RefusalLemmas
 pub mod ReplyLemmas
 pub mod RunLemmas

@@ -4,6 +4,7 @@ pub mod CutLines
 pub mod GameParts
 pub mod ModeNames
 pub mod EvenSplits
+pub mod PlainLines
 pub mod Runs
 pub mod Statuses
 pub mod Stops

@@ -1,13 +1,32 @@
-//! The lines of a game, read from a source line by line.
-ghost use Rattle.std.specs.Prelude.{◌≡◌, ◌≤◌, ◌++◌, ◌∷◌, [], IsTrue, IfOk, IfErr, OnOk, map};
+//! The lines of a game, read from a source: those that a reader has ahead in one piece, and each other
+//! line by itself.
+ghost use Rattle.std.specs.Prelude.{
+  ◌≡◌,
+  ◌≤◌,
+  ◌+◌,
+  ◌++◌,
+  ◌∷◌,
+  [],
+  IsTrue,
+  IfOk,
+  IfErr,
+  OnOk,
+  IfSome,
+  length,
+  take,
+  map,
+};
 ghost use Rattle.lab_io.specs.Causes.{Rose};
 ghost use Rattle.lab_io.specs.Reading.{LineStop};
+ghost use Rattle.lab_defs_report.specs.Cuts.{game_limit};
 ghost use Rattle.lab_cli.specs.CutLines.{RefusesCut};
+ghost use Rattle.lab_cli.specs.PlainLines.{ArePlainLines, GivesLines};
 ghost use Rattle.lab_cli.specs.Stops.{Advances};
 
 use crate::refusals::refused;
 use crate::stop::Stop;
 use lab_io::{LineReader, ReadStop, Source, Took};
+use memchr::memchr;
 use std::alloc::{AllocError, Global};
 
 /// The most bytes of the lines of a game.
@@ -44,6 +63,7 @@ impl GamePart {
         let mut text = Vec::new(alloc);
         let mut number = 1;
         loop {
+            number += take_ahead(&mut text, reader)?;
             match reader.next(source) {
                 Ok(Took::Line) => {}
                 Ok(Took::End) => return Err(refused(alloc, number, b"CutShort", &[])),
@@ -56,6 +76,47 @@ impl GamePart {
             number += 1;
         }
     }
+}
+
+// Adds to a text the whole lines that a reader has ahead before the first `done`, as far as they are
+// within the limit, and tells how many they are.
+fn take_ahead(text: &mut Vec<u8>, reader: &mut LineReader) -> Result<u32, AllocError>
+    requires paid { reader.old.allowance + length text.old.items ≡ game_limit }
+    ensures { IfOk result (λ count.
+        GivesLines reader.old reader.new text.old.items text.new.items count) }
+{
+    let ahead = reader.ahead();
+    let allowed = ahead.len().min(GAME_LIMIT as usize - text.len());
+    let (bytes, lines) = plain_lines(&ahead[..allowed]);
+    text.extend_from_slice(&ahead[..bytes])?;
+    reader.give(bytes);
+    Ok(lines as u32)
+}
+
+// How many bytes the whole lines before the first `done` take, and how many lines they are.
+fn plain_lines(bytes: &[u8]) -> (usize, usize)
+    ensures within { result.0 ≤ length bytes.now }
+    ensures lines { ArePlainLines (take result.0 bytes.now) result.1 }
+{
+    let mut taken = 0;
+    let mut count = 0;
+    while let Some(length) = plain_line(&bytes[taken..]) {
+        taken += length;
+        count += 1;
+    }
+    (taken, count)
+}
+
+// How many bytes the first line takes with its line feed, where it is whole and not `done`.
+fn plain_line(bytes: &[u8]) -> Option<usize>
+    ensures within { IfSome result (λ n. n ≤ length bytes.now) }
+    ensures line { IfSome result (λ n. ArePlainLines (take n bytes.now) 1) }
+{
+    let end = memchr(b'\n', bytes)?;
+    if &bytes[..end] == b"done".as_slice() {
+        return None;
+    }
+    Some(end + 1)
 }
 
 // Adds a line with its line feed.
