@@ -9,7 +9,7 @@ use crate::game_part::GamePart;
 use crate::stop::Stop;
 use crate::text_faults::game_of;
 use lab_io::{LineReader, Source};
-use lab_text::write_game;
+use lab_text::write_game_over;
 use std::alloc::Global;
 
 /// The canonical text of the game of an input with nothing behind it.
@@ -25,11 +25,11 @@ pub fn print<S: Source>(
     ensures advances { Advances (S.left source.old) (S.left source.new) }
     ensures later { S.faults source.old ≤ S.faults source.new }
 {
-    let part = GamePart::read(alloc, reader, source)?;
+    let mut part = GamePart::read(alloc, reader, source)?;
     let game = game_of(alloc, part.text.as_slice())?;
     check_end(alloc, part.done, reader, source)?;
-    match write_game(alloc, &game) {
-        Ok(text) => Ok(text),
+    match write_game_over(&mut part.text, &game) {
+        Ok(()) => Ok(part.text),
         Err(_) => Err(Stop::Memory),
     }
 }

@@ -1,63 +1,14 @@
-//! A vector that contracts see as a list.
+//! Lists of items as contracts see them: vectors, and lists that hold one item without an allocation.
+//!
+//! Types with lists for fields have them as `Seq` or `Few`, so that a contract compares such a type with a value of the
+//! definitions. Capacities and allocators are no part of what contracts see: two lists are equal where their items are.
 #![tactic(auto)]
 
-ghost use Rattle.std.specs.Prelude.{◌≡◌, ◌==◌, length};
+mod few;
+mod seq;
 
-use std::marker::Model;
-
-/// A `Vec` whose capacity and allocator are no part of what contracts see: two are equal where their items are.
-///
-/// Types with lists for fields have them as `Seq`, so that a contract compares such a type with a value of the definitions.
-#[derive(Drop)]
-pub struct Seq<T> {
-    items: Vec<T>,
-}
-
-impl<T> Model for Seq<T> {
-    ghost use Rattle.std.specs.Prelude.{List};
-    ghost use Rattle.std.specs.Coded.{coded_list};
-
-    ghost Value = { List T };
-
-    ghost coded = { coded_list T.code };
-
-    ghost view = { λ s. s.items.items };
-}
-
-impl<T> Seq<T> {
-    /// The items of a vector; it takes no memory.
-    pub fn from_vec(items: Vec<T>) -> Self
-        ensures { result ≡ items.items }
-    {
-        Seq { items }
-    }
-
-    /// The items as a vector again; it takes no memory.
-    pub fn into_vec(self) -> Vec<T>
-        ensures { result.items ≡ self }
-    {
-        let Seq { items } = self;
-        items
-    }
-
-    pub fn as_slice(&self) -> &[T]
-        ensures { result.now ≡ self.now }
-    {
-        self.items.as_slice()
-    }
-
-    pub fn len(&self) -> usize
-        ensures { result ≡ length self.now }
-    {
-        self.items.len()
-    }
-
-    pub fn is_empty(&self) -> bool
-        ensures { result ≡ (length self.now == 0) }
-    {
-        self.items.is_empty()
-    }
-}
+pub use few::Few;
+pub use seq::Seq;
 
 #[cfg(test)]
 mod tests {
@@ -69,7 +20,28 @@ mod tests {
         let items = Seq::from_vec(vec![in rt.alloc(); 7; 3]?);
         assert_eq!(rt; items.as_slice(), [7, 7, 7].as_slice());
         assert!(rt; items.len() == 3 && !items.is_empty());
-        assert_eq!(rt; items.into_vec().len(), 3);
+        let mut items = items.into_vec();
+        assert_eq!(rt; Seq::take_from(rt.alloc(), &mut items)?.len(), 3);
+        assert!(rt; items.is_empty() && items.capacity() == 3);
+        assert!(rt; Seq::<u32>::new(rt.alloc()).is_empty());
+        Ok(())
+    }
+
+    #[test]
+    fn holds_few_items(rt: HostRuntime) -> Result<(), Fail> {
+        let mut items = vec![in rt.alloc(); 7; 3]?;
+        let three = Few::take_from(rt.alloc(), &mut items)?;
+        assert!(rt; three.as_slice() == [7, 7, 7].as_slice() && three.len() == 3);
+        let none = Few::take_from(rt.alloc(), &mut items)?;
+        assert!(rt; none.is_empty() && Few::<u32>::new(rt.alloc()).is_empty());
+        items.push(8)?;
+        let one = Few::take_from(rt.alloc(), &mut items)?;
+        assert!(rt; one.as_slice() == [8].as_slice() && items.capacity() == 3);
+        assert!(rt; Few::one(8).as_slice() == one.as_slice());
+        let pair = Few::one((7u32, "abc"));
+        assert!(rt; pair.len() == 1);
+        let five = Few::from_vec(vec![in rt.alloc(); 5; 5]?);
+        assert!(rt; five.len() == 5 && !five.is_empty());
         Ok(())
     }
 }

@@ -46,7 +46,7 @@ open_row_of r = record { line = r.line; first = name_bytes r.first; second = nam
 
 -- the open world with its name
 abbrev pub open_world_of : Bytes → OpenWorld → draft.PartWorld
-open_world_of name w = record { name = name; line = w.line; one = pieces w.one.items; two = pieces w.two.items; rows = map part_row_of w.rows.items }
+open_world_of name w = record { name = name; line = w.line; one = pieces w.one; two = pieces w.two; rows = map part_row_of w.rows.items }
 
 -- the parts so far: the name behind those of the places is that of the open world
 abbrev pub draft_is : Draft → draft.Draft
@@ -62,9 +62,13 @@ draft_is x = record {
   root_line = x.root_line;
 }
 
--- the names of actions: one or more, none of them twice
+-- the names of actions, none of them twice
+abbrev pub apart_at : List Bytes → Result (List Bytes) LineFault
+apart_at ws = names_at 2 ws >>= λ xs. draft.unless_repeated xs xs
+
+-- likewise one or more
 abbrev pub actions_at : List Bytes → Result (List Bytes) LineFault
-actions_at ws = some_words ws >>= λ ns. names_at 2 ns >>= λ xs. draft.unless_repeated xs xs
+actions_at ws = some_words ws >>= apart_at
 
 -- the parts with the line that was read
 abbrev pub applied : ℕ → LineKind → Draft → Result Line LineFault → Result draft.Draft LineFault
@@ -80,7 +84,7 @@ whole_row r = record { line = r.line; first = r.first; second = r.second; outcom
 
 -- a world with its last row
 abbrev pub whole_world : OpenWorld → OpenRow → PartPlace (Bor Bytes)
-whole_world w r = place.World w.line w.one.items w.two.items (w.rows.items ++ whole_row r ∷ [])
+whole_world w r = place.World w.line w.one w.two (w.rows.items ++ whole_row r ∷ [])
 
 -- the places: behind an outcome the last world is one of them
 abbrev pub closed_places : LineKind → Draft → List (PartPlace (Bor Bytes))

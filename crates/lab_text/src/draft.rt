@@ -1,5 +1,6 @@
 //! The parts of a game that the lines so far declare. The last world and the last row stand apart until they are whole.
 use lab_lex::NameTable;
+use lab_seq::Few;
 use lab_world::{PartOutcome, PartPlace, PartRow, Recall};
 
 /// A row whose outcomes are being read.
@@ -15,8 +16,8 @@ pub struct OpenRow<'a> {
 #[derive(Drop)]
 pub struct OpenWorld<'a> {
     pub line: u32,
-    pub one: Vec<&'a str>,
-    pub two: Vec<&'a str>,
+    pub one: Few<&'a str>,
+    pub two: Few<&'a str>,
     pub rows: Vec<PartRow<&'a str>>,
 }
 

@@ -10,7 +10,7 @@ use crate::draft::{Draft, OpenRow, OpenWorld};
 use crate::line_fault::LineFault;
 use crate::line_kind::LineKind;
 use lab_lex::{NameTable, NoMemory, TableFault, place_of_name};
-use lab_seq::Seq;
+use lab_seq::{Few, Seq};
 use lab_world::{PartPlace, PartRow, Recall};
 use std::alloc::{AllocError, Global};
 use std::mem;
@@ -29,59 +29,68 @@ pub fn new_draft<'a>(alloc: Global) -> Result<Draft<'a>, NoMemory>
         tokens: NameTable::new(alloc)?,
         names: NameTable::new(alloc)?,
         places: Vec::new(alloc),
-        open_world: empty_world(alloc, 0),
-        open_row: no_row(alloc),
+        open_world: OpenWorld {
+            line: 0,
+            one: Few::new(alloc),
+            two: Few::new(alloc),
+            rows: Vec::new(alloc),
+        },
+        open_row: OpenRow {
+            line: 0,
+            first: "",
+            second: "",
+            outcomes: Vec::new(alloc),
+        },
         root: "",
         root_line: 0,
     })
 }
 
-// No row.
-fn no_row<'a>(alloc: Global) -> OpenRow<'a>
-    ensures { open_row_of result ≡ no_row }
+/// Takes out a row whose outcomes were read, and leaves it without them.
+pub fn whole_row<'a>(alloc: Global, row: &mut OpenRow<'a>) -> Result<PartRow<&'a str>, AllocError>
+    ensures { IfOk result (λ r. r ≡ whole_row row.old) }
 {
-    OpenRow {
-        line: 0,
-        first: "",
-        second: "",
-        outcomes: Vec::new(alloc),
-    }
-}
-
-/// A world that begins at a line; line 0 stands for none.
-pub fn empty_world<'a>(alloc: Global, line: u32) -> OpenWorld<'a>
-    ensures { open_world_of [] result ≡ record { name = []; line = line; one = []; two = []; rows = [] } }
-{
-    OpenWorld {
-        line,
-        one: Vec::new(alloc),
-        two: Vec::new(alloc),
-        rows: Vec::new(alloc),
-    }
-}
-
-/// A row whose outcomes were read.
-pub fn whole_row<'a>(row: OpenRow<'a>) -> PartRow<&'a str>
-    ensures { result ≡ whole_row row.entry }
-{
-    PartRow {
+    Ok(PartRow {
         line: row.line,
         first: row.first,
         second: row.second,
-        outcomes: Seq::from_vec(row.outcomes),
-    }
+        outcomes: Few::take_from(alloc, &mut row.outcomes)?,
+    })
 }
 
-// A world whose rows were read.
-fn whole_world<'a>(world: OpenWorld<'a>) -> PartPlace<&'a str>
-    ensures { result ≡ PartPlace.World world.entry.line world.entry.one.items world.entry.two.items world.entry.rows.items }
+/// Begins a row in the room of the one before; line 0 and no names stand for none.
+pub fn begin_row<'a>(row: &mut OpenRow<'a>, line: u32, first: &'a str, second: &'a str)
+    ensures { open_row_of row.new ≡ record { line = line; first = first.now; second = second.now; outcomes = [] } }
 {
-    PartPlace::World {
+    row.line = line;
+    row.first = first;
+    row.second = second;
+    row.outcomes.clear();
+}
+
+// Takes out a world whose rows were read, and leaves it without them.
+fn whole_world<'a>(
+    alloc: Global,
+    world: &mut OpenWorld<'a>,
+) -> Result<PartPlace<&'a str>, AllocError>
+    ensures { IfOk result (λ p. p ≡ PartPlace.World world.old.line world.old.one world.old.two world.old.rows.items) }
+{
+    Ok(PartPlace::World {
         line: world.line,
-        one: Seq::from_vec(world.one),
-        two: Seq::from_vec(world.two),
-        rows: Seq::from_vec(world.rows),
-    }
+        one: mem::replace(&mut world.one, Few::new(alloc)),
+        two: mem::replace(&mut world.two, Few::new(alloc)),
+        rows: Seq::take_from(alloc, &mut world.rows)?,
+    })
+}
+
+/// Begins a world in the room of the one before; line 0 stands for none.
+pub fn begin_world(alloc: Global, world: &mut OpenWorld<'_>, line: u32)
+    ensures { open_world_of [] world.new ≡ record { name = []; line = line; one = []; two = []; rows = [] } }
+{
+    world.line = line;
+    world.one = Few::new(alloc);
+    world.two = Few::new(alloc);
+    world.rows.clear();
 }
 
 /// Puts the last row into its world and the last world among the places, behind the line of an outcome.
@@ -89,10 +98,12 @@ pub fn close(alloc: Global, draft: &mut Draft<'_>, last: LineKind) -> Result<(),
     ensures { OnOk result (Closed last draft.old draft.new) }
 {
     if last == LineKind::To {
-        let row = mem::replace(&mut draft.open_row, no_row(alloc));
-        let mut world = mem::replace(&mut draft.open_world, empty_world(alloc, 0));
-        world.rows.push(whole_row(row))?;
-        draft.places.push(whole_world(world))?;
+        let row = whole_row(alloc, &mut draft.open_row)?;
+        draft.open_world.rows.push(row)?;
+        let world = whole_world(alloc, &mut draft.open_world)?;
+        draft.places.push(world)?;
+        begin_row(&mut draft.open_row, 0, "", "");
+        begin_world(alloc, &mut draft.open_world, 0);
     }
     Ok(())
 }

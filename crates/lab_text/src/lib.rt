@@ -25,4 +25,4 @@ pub use line_fault::LineFault;
 pub use line_words::{all_words, only, whole_in};
 pub use lines::push_line;
 pub use read::read_game;
-pub use write::{NoMemory, write_game};
+pub use write::{NoMemory, write_game, write_game_over};

@@ -6,7 +6,7 @@ ghost use Rattle.lab_text.specs.Faults.{line_fault};
 ghost use Rattle.lab_text.specs.Drafts.{draft_is, applied, pieces, whole_worlds};
 
 use crate::draft::Draft;
-use crate::draft_steps::{add_name, close, empty_world};
+use crate::draft_steps::{add_name, begin_world, close};
 use crate::line_fault::LineFault;
 use crate::line_kind::LineKind;
 use crate::line_words::{name_in, only, payoff_in, two};
@@ -32,7 +32,7 @@ pub fn world_line(
     let name = name_in(word, 2)?;
     close(alloc, draft, last)?;
     add_name(&mut draft.names, name)?;
-    draft.open_world = empty_world(alloc, line);
+    begin_world(alloc, &mut draft.open_world, line);
     Ok(())
 }
 

@@ -3,16 +3,16 @@ ghost use Rattle.std.specs.Prelude.{◌≡◌, ◌+◌, ◌<◌, ◌^◌, length
 ghost use Rattle.lab_defs_text.specs.Agreement.{Agrees};
 ghost use Rattle.lab_defs_text.specs.Reading.{rest_at, one_kind, two_kind, row_kind, to_kind};
 ghost use Rattle.lab_text.specs.Faults.{line_fault};
-ghost use Rattle.lab_text.specs.Drafts.{draft_is, applied, pieces, actions_at, KeepsNames};
+ghost use Rattle.lab_text.specs.Drafts.{draft_is, applied, pieces, actions_at, apart_at, KeepsNames};
 
-use crate::draft::{Draft, OpenRow};
-use crate::draft_steps::{twice_place, whole_row};
+use crate::draft::Draft;
+use crate::draft_steps::{begin_row, twice_place, whole_row};
 use crate::line_fault::LineFault;
 use crate::line_kind::LineKind;
 use crate::line_words::{five, name_in, names_in, number_in, two};
+use lab_seq::Few;
 use lab_world::PartOutcome;
 use std::alloc::Global;
-use std::mem;
 
 /// The line of seat 1's actions.
 pub fn one_line<'a>(
@@ -47,13 +47,22 @@ pub fn two_line<'a>(
 }
 
 // The names of actions behind the first word, each of which is new.
-fn actions_in<'a>(alloc: Global, rest: &[&'a [u8]]) -> Result<Vec<&'a str>, LineFault>
+fn actions_in<'a>(alloc: Global, rest: &[&'a [u8]]) -> Result<Few<&'a str>, LineFault>
     requires { length rest.now + 1 < 2 ^ 32 }
-    ensures { Agrees (λ v. pieces v.items) line_fault result (actions_at (pieces rest.now)) }
+    ensures { Agrees pieces line_fault result (actions_at (pieces rest.now)) }
 {
-    if rest.is_empty() {
-        return Err(LineFault::BadWord { place: 2 });
+    match rest {
+        [] => Err(LineFault::BadWord { place: 2 }),
+        [word] => Ok(Few::one(name_in(word, 2)?)),
+        [_, _, ..] => Ok(Few::from_vec(apart_in(alloc, rest)?)),
     }
+}
+
+// The names of actions, each of which is new.
+fn apart_in<'a>(alloc: Global, rest: &[&'a [u8]]) -> Result<Vec<&'a str>, LineFault>
+    requires { length rest.now + 1 < 2 ^ 32 }
+    ensures { Agrees (λ v. pieces v.items) line_fault result (apart_at (pieces rest.now)) }
+{
     let names = names_in(alloc, rest)?;
     let place = twice_place(alloc, &names)?;
     if place != 0 {
@@ -74,16 +83,13 @@ pub fn row_line<'a>(
     ensures names { KeepsNames draft.old draft.new }
 {
     let (first, second) = two(rest)?;
-    let row = OpenRow {
-        line,
-        first: name_in(first, 2)?,
-        second: name_in(second, 3)?,
-        outcomes: Vec::with_capacity(alloc, 1)?,
-    };
-    let whole = mem::replace(&mut draft.open_row, row);
+    let first = name_in(first, 2)?;
+    let second = name_in(second, 3)?;
     if last == LineKind::To {
-        draft.open_world.rows.push(whole_row(whole))?;
+        let whole = whole_row(alloc, &mut draft.open_row)?;
+        draft.open_world.rows.push(whole)?;
     }
+    begin_row(&mut draft.open_row, line, first, second);
     Ok(())
 }
 

@@ -23,10 +23,19 @@ pub fn write_game(alloc: Global, game: &Game) -> Result<Vec<u8>, NoMemory>
     ensures { IfOk result (λ text. text.items ≡ canonical (game_model game.now)) }
 {
     let mut text = Vec::new(alloc);
-    let Ok(()) = push_game(&mut text, game) else {
+    write_game_over(&mut text, game)?;
+    Ok(text)
+}
+
+/// Likewise, in place of what stands in a vector, whose room is used again.
+pub fn write_game_over(text: &mut Vec<u8>, game: &Game) -> Result<(), NoMemory>
+    ensures { OnOk result (text.new.items ≡ canonical (game_model game.now)) }
+{
+    text.clear();
+    let Ok(()) = push_game(text, game) else {
         return Err(NoMemory);
     };
-    Ok(text)
+    Ok(())
 }
 
 // Adds the text of a game.

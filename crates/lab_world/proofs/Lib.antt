@@ -1,5 +1,6 @@
 pub mod ActionNameLemmas
 pub mod EachLemmas
+pub mod MadeLemmas
 pub mod OrderLemmas
 pub mod PartLemmas
 pub mod PlaceLemmas

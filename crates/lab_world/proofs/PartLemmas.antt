@@ -11,15 +11,13 @@ use Rattle.std.proofs.lemmas.List.{length-map}
 use Rattle.lab_defs_text.specs.Agreement.{FaultAgrees}
 use Rattle.lab_defs_text.specs.Faults.{TextFault, no_root}
 use Rattle.lab_defs_text.specs.Steps.{◌>>=◌, each}
-use Rattle.lab_defs_text.specs.Words.{Bytes, apart_after, are_names}
+use Rattle.lab_defs_text.specs.Words.{Bytes, are_names}
 use Rattle.lab_defs_text.specs.Games as model
 use Rattle.lab_defs_text.specs.Texts.{is_within, game_ok}
 use Rattle.lab_defs_text.specs.Drafts as draft
 use Rattle.lab_defs_text.specs.Reading.{done_kind}
-use Rattle.lab_defs_text.specs.Parts.{part_ok, part_row_ok, parts_ok}
-use Rattle.lab_defs_text.specs.Assembly.{KnownPlace, known_world, known_end, known, known_row, known_place, placed, ordered, is_world_at, assembled}
-use Rattle.lab_defs_text.proofs.GameLemmas.{names_fine}
-use Rattle.lab_defs_text.proofs.StepLemmas.{bind_ok, ok_carries}
+use Rattle.lab_defs_text.specs.Parts.{part_ok, parts_ok}
+use Rattle.lab_defs_text.specs.Assembly.{KnownPlace, known, known_place, placed, ordered, is_world_at, assembled}
 use Rattle.lab_defs_text.proofs.SplitLemmas.{bytes_eq_refl}
 use Rattle.lab_defs_text.proofs.SoFarLemmas.{apart_names, IsDraft}
 use Rattle.lab_defs_text.proofs.WholeLemmas.{game_is}
@@ -33,30 +31,8 @@ use Rattle.lab_world.specs.declared.place.WorldId.{WorldId}
 use Rattle.lab_world.specs.Drafts.{part_place_by, part_place_of, part_places_by, part_places_of, draft_of, named_draft_of}
 use Rattle.lab_world.specs.Models.{place_model, parts_model}
 use Rattle.lab_world.specs.Wholes.{action_names, place_fits, is_whole}
-use Rattle.lab_world.specs.Stages.{known_apart, Rooted, rooted}
+use Rattle.lab_world.specs.Stages.{Rooted, rooted}
 use Rattle.lab_world.proofs.EachLemmas.{fault_first}
-
--- ---- actions apart
-
--- a place that is known has its actions apart
-known_is_apart : (ns ts : List Bytes) (p : draft.PartPlace) (k : KnownPlace) → part_ok p ≡ true → known_place ns ts p ≡ Ok k → known_apart k ≡ true
-known_is_apart ns ts (draft.part_end n line z) k f e = ok_carries (λ (x : KnownPlace). known_apart x ≡ true) (known_end z) k e refl
-known_is_apart ns ts (draft.part_world w) k f e =
-    let h = and_parts (are_names w.one) (are_names w.two && list_all part_row_ok w.rows) f in
-    let i = and_parts (are_names w.two) (list_all part_row_ok w.rows) h.1 in
-    let a = bind_ok (each (known_row ns ts) w.rows) (λ rs. Ok (known_world w.line w.one w.two rs)) k e in
-    ok_carries (λ (x : KnownPlace). known_apart x ≡ true) (known_world w.line w.one w.two a.0) k a.2
-    (and_from (apart_after [] w.one) (apart_after [] w.two) (names_fine w.one h.0).apart (names_fine w.two i.0).apart)
-
--- likewise all places
-pub knowns_apart : (ns ts : List Bytes) (ps : List draft.PartPlace) (ks : List KnownPlace) → list_all part_ok ps ≡ true → each (known_place ns ts) ps ≡ Ok ks → list_all known_apart ks ≡ true
-knowns_apart ns ts [] ks f e = ok_carries (λ (xs : List KnownPlace). list_all known_apart xs ≡ true) [] ks e refl
-knowns_apart ns ts (p ∷ ps) ks f e =
-    let h = and_parts (part_ok p) (list_all part_ok ps) f in
-    let a = bind_ok (known_place ns ts p) (λ y. each (known_place ns ts) ps >>= λ ys. Ok (y ∷ ys)) ks e in
-    let b = bind_ok (each (known_place ns ts) ps) (λ ys. Ok (a.0 ∷ ys)) ks a.2 in
-    ok_carries (λ (xs : List KnownPlace). list_all known_apart xs ≡ true) (a.0 ∷ b.0) ks b.2
-    (and_from (known_apart a.0) (list_all known_apart b.0) (known_is_apart ns ts p a.0 h.0 a.1) (knowns_apart ns ts ps b.0 h.1 b.1))
 
 -- ---- names of places
 

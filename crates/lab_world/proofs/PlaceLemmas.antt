@@ -13,7 +13,9 @@ use Rattle.lab_world.specs.declared.place.Place.{Place}
 use Rattle.lab_world.specs.declared.place.Place.TheVariants as place
 use Rattle.lab_world.specs.Models.{row_model, action_list, world_model, place_model}
 use Rattle.lab_world.specs.Wholes.{with_new, action_names, place_fits}
+use Rattle.lab_world.specs.declared.stages.NumberedPlaces.{NumberedPlaces}
 use Rattle.lab_world.specs.Stages.{total_fits}
+use Rattle.lab_world.specs.Made.{AreNumbered}
 use Rattle.lab_world.proofs.ActionNameLemmas.{with_new_rest, ids_below, ids_below_more, ids_below_new, action_list_append, action_list_new}
 
 -- names of actions come at the end
@@ -74,27 +76,34 @@ world_named middle actions w m table one one_below two two_below rows totals =
       fits = and_from (ids_below (length actions) w.one) (ids_below (length actions) w.two && list_all total_fits w.rows) below (and_from (ids_below (length actions) w.two) (list_all total_fits w.rows) two_below totals);
     }
 
--- the names of the actions of a place, then those of others
-pub action_names_first : (names : List Bytes) (p : model.Place) (ps : List model.Place) → action_names (action_names names (p ∷ [])) ps ≡ action_names names (p ∷ ps)
-action_names_first names (model.a_world w) ps = refl
-action_names_first names (model.an_end z) ps = refl
+-- the names of the actions of places and of one more
+action_names_push : (names : List Bytes) (ms : List model.Place) (m : model.Place) → action_names (action_names names ms) (m ∷ []) ≡ action_names names (ms ++ m ∷ [])
+action_names_push names [] m = refl
+action_names_push names (model.a_world w ∷ ms) m = action_names_push (with_new (with_new names w.one) w.two) ms m
+action_names_push names (model.an_end z ∷ ms) m = action_names_push names ms m
 
--- what holds with one place more
-pub record PlacePushed (actions : List Bytes) (after : List Place) (made rest : List model.Place) : Type 0 where
-  pub places : map (place_model actions) after ++ rest ≡ made
-  pub fits : list_all (place_fits (length actions)) after ≡ true
+-- no places, and no names
+pub none_numbered : (n : NumberedPlaces) → n.actions ≡ [] → n.places.items ≡ [] → AreNumbered n []
+none_numbered n table items = record {
+  same = ap (map (place_model n.actions)) items;
+  names = table;
+  fits = ap (list_all (place_fits (length n.actions))) items;
+}
 
 -- one place more, whose names of actions may be new
-pub place_pushed : (before actions : List Bytes) (found after : List Place) (p : Place) (m : model.Place) (made rest : List model.Place) → actions ≡ action_names before (m ∷ []) → after ≡ found ++ p ∷ []
-    → place_model actions p ≡ m → place_fits (length actions) p ≡ true → list_all (place_fits (length before)) found ≡ true → map (place_model before) found ++ (m ∷ rest) ≡ made → PlacePushed actions after made rest
-place_pushed before actions found after p m made rest table items same fit fits whole =
-    let more = action_names_rest before (m ∷ []) in
-    let grown : actions ≡ before ++ more.0 = table ∙ more.1 in
-    let kept : map (place_model actions) found ≡ map (place_model before) found = ap (λ (xs : List Bytes). map (place_model xs) found) grown ∙ places_append before more.0 found fits in
-    let still : list_all (place_fits (length actions)) found ≡ true = subst (λ (xs : List Bytes). list_all (place_fits (length xs)) found ≡ true) (sym grown)
-    (all_weaker (place_fits (length before)) (place_fits (length (before ++ more.0))) (fits_more before more.0) found fits) in
+pub place_more : (before after : NumberedPlaces) (p : Place) (m : model.Place) (ms : List model.Place) → after.actions ≡ action_names before.actions (m ∷ []) → after.places.items ≡ before.places.items ++ p ∷ []
+    → place_model after.actions p ≡ m → place_fits (length after.actions) p ≡ true → AreNumbered before ms → AreNumbered after (ms ++ m ∷ [])
+place_more before after p m ms table items same fit h =
+    let old = before.actions in
+    let new = after.actions in
+    let found = before.places.items in
+    let more = action_names_rest old (m ∷ []) in
+    let grown : new ≡ old ++ more.0 = table ∙ more.1 in
+    let kept : map (place_model new) found ≡ ms = ap (λ (xs : List Bytes). map (place_model xs) found) grown ∙ places_append old more.0 found h.fits ∙ h.same in
+    let still : list_all (place_fits (length new)) found ≡ true = subst (λ (xs : List Bytes). list_all (place_fits (length xs)) found ≡ true) (sym grown)
+    (all_weaker (place_fits (length old)) (place_fits (length (old ++ more.0))) (fits_more old more.0) found h.fits) in
     record {
-      places = ap (λ (ps : List Place). map (place_model actions) ps ++ rest) items ∙ ap (λ (ms : List model.Place). ms ++ rest) (map-append (place_model actions) found (p ∷ []) ∙ rw (kept, same) refl)
-          ∙ append_assoc (map (place_model before) found) (m ∷ []) rest ∙ whole;
-      fits = subst (λ (ps : List Place). list_all (place_fits (length actions)) ps ≡ true) (sym items) (all_push (place_fits (length actions)) found p still fit);
+      same = ap (map (place_model new)) items ∙ map-append (place_model new) found (p ∷ []) ∙ rw (kept, same) refl;
+      names = table ∙ ap (λ (xs : List Bytes). action_names xs (m ∷ [])) h.names ∙ action_names_push [] ms m;
+      fits = subst (λ (ps : List Place). list_all (place_fits (length new)) ps ≡ true) (sym items) (all_push (place_fits (length new)) found p still fit);
     }

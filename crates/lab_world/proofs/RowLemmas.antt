@@ -1,14 +1,16 @@
 -- Rows by the numbers of their joint actions.
-use Rattle.std.proofs.Common.{◌≡◌, ℕ, Bool, true, false, nat_eq, List, [], ◌∷◌, ◌++◌, length, Result, Ok, Err, refl, sym, ap, ◌∙◌, append_assoc, append-nil, arith, inl, inr, cond}
-use Rattle.std.specs.Prelude.{◌==◌}
-use Rattle.std.specs.List.{list_any}
-use Rattle.std.proofs.lemmas.Bool.{cases_Bool, both_ways, eq-eqb, eqb-true}
+use Rattle.std.proofs.Common.{◌≡◌, ℕ, Bool, true, false, nat_eq, List, [], ◌∷◌, ◌++◌, length, Result, Ok, Err, refl, sym, ap, ◌∙◌, append_assoc, append-nil, length-append, arith, inl, inr, cond}
+use Rattle.std.specs.Prelude.{◌==◌, ◌&&◌}
+use Rattle.std.specs.List.{list_any, list_all}
+use Rattle.std.proofs.lemmas.Bool.{cases_Bool, both_ways, eq-eqb, eqb-true, and_parts, and_from}
+use Rattle.lab_math.proofs.ListTests.{all_push}
 use Rattle.lab_defs_text.specs.Faults.{TextFault, extra_row}
 use Rattle.lab_defs_text.specs.Steps.{◌>>=◌}
 use Rattle.lab_defs_text.specs.Words.{Bytes}
 use Rattle.lab_defs_text.specs.Assembly.{KnownRow, PlacedRow, taken, unless_taken, action_of, place_rows}
-use Rattle.lab_world.specs.declared.place.Outcome.{Outcome}
-use Rattle.lab_world.specs.Stages.{outcomes_model, numbered_rows, with_row}
+use Rattle.lab_world.specs.declared.place.Row.{Row}
+use Rattle.lab_world.specs.Models.{row_model}
+use Rattle.lab_world.specs.Stages.{numbered_rows, total_fits, with_row}
 
 -- ---- rows one after another
 
@@ -65,18 +67,35 @@ eqb_turned i k = elim (cases_Bool (i == k)) [
 ]
 
 -- a joint action has a row where its number stands
-pub taken_number : (k : ℕ) (ks : List ℕ) (oss : List (List Outcome)) → length ks ≡ length oss → taken k (numbered_rows ks oss) ≡ list_any (nat_eq k) ks
+pub taken_number : (k : ℕ) (ks : List ℕ) (rs : List Row) → length ks ≡ length rs → taken k (numbered_rows ks rs) ≡ list_any (nat_eq k) ks
 taken_number k [] [] e = refl
-taken_number k [] (os ∷ oss) e = refl
+taken_number k [] (r ∷ rs) e = refl
 taken_number k (i ∷ ks) [] e = absurd (omega (arith, e))
-taken_number k (i ∷ ks) (os ∷ oss) e = rw (eqb_turned i k, taken_number k ks oss (omega (arith, e))) refl
+taken_number k (i ∷ ks) (r ∷ rs) e = rw (eqb_turned i k, taken_number k ks rs (omega (arith, e))) refl
 
--- one number more, with its outcomes
-pub numbered_push : (ks : List ℕ) (oss : List (List Outcome)) (k : ℕ) (os : List Outcome) → length ks ≡ length oss → numbered_rows (ks ++ k ∷ []) (oss ++ os ∷ []) ≡ numbered_rows ks oss ++ record { number = k; outcomes = outcomes_model os } ∷ []
-numbered_push [] [] k os e = refl
-numbered_push [] (x ∷ xs) k os e = absurd (omega (arith, e))
-numbered_push (i ∷ ks) [] k os e = absurd (omega (arith, e))
-numbered_push (i ∷ ks) (x ∷ xs) k os e = ap (λ (ps : List PlacedRow). record { number = i; outcomes = outcomes_model x } ∷ ps) (numbered_push ks xs k os (omega (arith, e)))
+-- one number more, with its row
+pub numbered_push : (ks : List ℕ) (rs : List Row) (k : ℕ) (r : Row) → length ks ≡ length rs → numbered_rows (ks ++ k ∷ []) (rs ++ r ∷ []) ≡ numbered_rows ks rs ++ record { number = k; outcomes = row_model r } ∷ []
+numbered_push [] [] k r e = refl
+numbered_push [] (x ∷ xs) k r e = absurd (omega (arith, e))
+numbered_push (i ∷ ks) [] k r e = absurd (omega (arith, e))
+numbered_push (i ∷ ks) (x ∷ xs) k r e = ap (λ (ps : List PlacedRow). record { number = i; outcomes = row_model x } ∷ ps) (numbered_push ks xs k r (omega (arith, e)))
+
+-- as many rows as numbers, each with its total
+pub record RowsFit (ks : List ℕ) (rs : List Row) : Type 0 where
+  pub even : length ks ≡ length rs
+  pub totals : list_all total_fits rs ≡ true
+
+-- what the test of them says
+pub rows_that_fit : (ks : List ℕ) (rs : List Row) → (length ks == length rs && list_all total_fits rs) ≡ true → RowsFit ks rs
+rows_that_fit ks rs e =
+    let a = and_parts (length ks == length rs) (list_all total_fits rs) e in
+    record { even = eqb-true (length ks) (length rs) a.0; totals = a.1 }
+
+-- one number more, with its row and its total
+pub fit_push : (ks : List ℕ) (rs : List Row) (k : ℕ) (r : Row) → RowsFit ks rs → total_fits r ≡ true → (length (ks ++ k ∷ []) == length (rs ++ r ∷ []) && list_all total_fits (rs ++ r ∷ [])) ≡ true
+fit_push ks rs k r h e =
+    and_from (length (ks ++ k ∷ []) == length (rs ++ r ∷ [])) (list_all total_fits (rs ++ r ∷ []))
+    (eq-eqb (length (ks ++ k ∷ [])) (length (rs ++ r ∷ [])) (omega (arith, h.even, length-append ks (k ∷ []), length-append rs (r ∷ [])))) (all_push total_fits rs r h.totals e)
 
 -- ---- one row more
 

@@ -1,8 +1,9 @@
 -- Searches through numbers that follow one another, with others behind them.
-use Rattle.std.proofs.Common.{◌≡◌, ℕ, zero, suc, ◌+◌, ◌<◌, ◌≤◌, nat_lt, true, false, nat_eq, List, [], ◌∷◌, ◌++◌, Some, None, position, refl, sym, ap, ◌∙◌, append-nil, arith, inl, inr}
+use Rattle.std.proofs.Common.{◌≡◌, ℕ, zero, suc, ◌+◌, ◌<◌, ◌≤◌, nat_lt, true, false, nat_eq, List, [], ◌∷◌, ◌++◌, length, Some, None, position, refl, sym, ap, ◌∙◌, append-nil, arith, inl, inr}
 use Rattle.std.specs.Prelude.{◌==◌}
 use Rattle.std.specs.List.{list_any, position_from, range_with_len}
 use Rattle.std.proofs.lemmas.Bool.{cases_Bool, ne_eqb, ltb-false, ltb-true, eq-eqb}
+use Rattle.std.proofs.lemmas.List.FromFn.{length-range_with_len}
 use Rattle.std.proofs.lemmas.Iterator.Adapters.{position_from-zero}
 
 -- a number is no later one
@@ -57,3 +58,9 @@ run_more n k xs same none =
     let next : n + 1 ≡ suc n = omega arith in
     ap (λ (ys : List ℕ). range_with_len 0 (n + 1) ++ ys) none ∙ append-nil (range_with_len 0 (n + 1)) ∙ ap (range_with_len 0) next ∙ range_last 0 n k (omega (arith, same))
     ∙ sym (ap (λ (ys : List ℕ). ys ++ k ∷ []) (ap (λ (ys : List ℕ). range_with_len 0 n ++ ys) none ∙ append-nil (range_with_len 0 n)))
+
+-- where there are no others, the numbers are as many as are counted
+pub run_alone : (n : ℕ) (xs : List ℕ) → xs ≡ [] → range_with_len 0 n ++ xs ≡ range_with_len 0 (length (range_with_len 0 n ++ xs))
+run_alone n xs none =
+    let all : range_with_len 0 n ++ xs ≡ range_with_len 0 n = ap (λ (ys : List ℕ). range_with_len 0 n ++ ys) none ∙ append-nil (range_with_len 0 n) in
+    all ∙ ap (range_with_len 0) (sym (length-range_with_len 0 n)) ∙ ap (λ (ys : List ℕ). range_with_len 0 (length ys)) (sym all)

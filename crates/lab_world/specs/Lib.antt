@@ -3,3 +3,4 @@ pub mod Wholes
 pub mod Games
 pub mod Drafts
 pub mod Stages
+pub mod Made

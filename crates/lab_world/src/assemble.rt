@@ -8,11 +8,10 @@ ghost use Rattle.lab_world.specs.Games.{game_model};
 
 use super::game::Game;
 use super::named::named_places;
-use super::numbered::{NumberedPlaces, numbered_places};
 use super::parts::{AssembleFault, Parts};
 use super::place::WorldId;
 use super::rooted::rooted_places;
-use super::stages::RootedPlaces;
+use super::stages::{NumberedPlaces, RootedPlaces};
 use lab_seq::Seq;
 use std::alloc::Global;
 
@@ -65,7 +64,7 @@ impl Game {
             root,
             root_line,
         } = parts;
-        let RootedPlaces { places, root } = rooted_places(
+        let RootedPlaces { numbered, root } = rooted_places(
             alloc,
             &names,
             &tokens,
@@ -73,7 +72,7 @@ impl Game {
             root_line,
             root,
         )?;
-        let NumberedPlaces { actions, places } = numbered_places(alloc, places)?;
+        let NumberedPlaces { actions, places } = numbered;
         Ok(Game {
             grid,
             horizon,

@@ -16,26 +16,11 @@ use super::parts::{AssembleFault, PartOutcome, PartPlace, PartRow};
 use super::place::{Outcome, TokenId, WorldId};
 use super::stages::{KnownPlace, KnownRow};
 use lab_lex::NameTable;
-use lab_seq::Seq;
+use lab_seq::Few;
 use std::alloc::Global;
 
-/// The places with their outcomes by numbers, or the first name that is not declared.
-pub fn known_places<'a>(
-    alloc: Global,
-    names: &NameTable,
-    tokens: &NameTable,
-    places: Vec<PartPlace<&'a str>>,
-) -> Result<Vec<KnownPlace<'a>>, AssembleFault>
-    ensures { Agrees (λ v. map known_place_of v.items) assemble_fault result (each (known_place_of_parts names.now tokens.now) (map (part_place_of []) places.entry.items)) }
-{
-    let mut found = Vec::with_capacity(alloc, places.len())?;
-    for place in places {
-        found.push(known_place(alloc, names, tokens, place)?)?;
-    }
-    Ok(found)
-}
-
-fn known_place<'a>(
+/// A place with its outcomes by numbers, or the first name that is not declared.
+pub fn known_place<'a>(
     alloc: Global,
     names: &NameTable,
     tokens: &NameTable,
@@ -50,25 +35,26 @@ fn known_place<'a>(
             two,
             rows,
         } => {
-            let rows = known_rows(alloc, names, tokens, rows.into_vec())?;
+            let rows = known_rows(alloc, names, tokens, rows.as_slice())?;
             Ok(KnownPlace::World {
                 line,
                 one,
                 two,
-                rows: Seq::from_vec(rows),
+                rows,
             })
         }
         PartPlace::End { payoff, .. } => Ok(KnownPlace::End(payoff)),
     }
 }
 
+// The rows with their outcomes by numbers.
 fn known_rows<'a>(
     alloc: Global,
     names: &NameTable,
     tokens: &NameTable,
-    rows: Vec<PartRow<&'a str>>,
+    rows: &[PartRow<&'a str>],
 ) -> Result<Vec<KnownRow<'a>>, AssembleFault>
-    ensures { Agrees (λ v. map known_row_of v.items) assemble_fault result (each (known_row_of_parts names.now tokens.now) (map part_row_of rows.entry.items)) }
+    ensures { Agrees (λ v. map known_row_of v.items) assemble_fault result (each (known_row_of_parts names.now tokens.now) (map part_row_of rows.now)) }
 {
     let mut found = Vec::with_capacity(alloc, rows.len())?;
     for row in rows {
@@ -77,36 +63,47 @@ fn known_rows<'a>(
     Ok(found)
 }
 
+// A row with its outcomes by numbers.
 fn known_row<'a>(
     alloc: Global,
     names: &NameTable,
     tokens: &NameTable,
-    row: PartRow<&'a str>,
+    row: &PartRow<&'a str>,
 ) -> Result<KnownRow<'a>, AssembleFault>
-    ensures { Agrees known_row_of assemble_fault result (known_row_of_parts names.now tokens.now (part_row_of row.entry)) }
+    ensures { Agrees known_row_of assemble_fault result (known_row_of_parts names.now tokens.now (part_row_of row.now)) }
 {
-    let PartRow {
-        line,
-        first,
-        second,
-        outcomes,
-    } = row;
-    let outcomes = known_outcomes(alloc, names, tokens, outcomes.into_vec())?;
+    let outcomes = known_outcomes(alloc, names, tokens, row.outcomes.as_slice())?;
     Ok(KnownRow {
-        line,
-        first,
-        second,
-        outcomes: Seq::from_vec(outcomes),
+        line: row.line,
+        first: row.first,
+        second: row.second,
+        outcomes,
     })
 }
 
+// The outcomes by numbers; one by itself takes no memory.
 fn known_outcomes(
     alloc: Global,
     names: &NameTable,
     tokens: &NameTable,
-    outcomes: Vec<PartOutcome<&str>>,
+    outcomes: &[PartOutcome<&str>],
+) -> Result<Few<Outcome>, AssembleFault>
+    ensures { Agrees outcomes_model assemble_fault result (each (known_outcome_of_parts names.now tokens.now) (map part_outcome_of outcomes.now)) }
+{
+    if let [outcome] = outcomes {
+        return Ok(Few::one(known_outcome(names, tokens, outcome)?));
+    }
+    Ok(Few::from_vec(outcome_list(alloc, names, tokens, outcomes)?))
+}
+
+// The outcomes by numbers, in a vector.
+fn outcome_list(
+    alloc: Global,
+    names: &NameTable,
+    tokens: &NameTable,
+    outcomes: &[PartOutcome<&str>],
 ) -> Result<Vec<Outcome>, AssembleFault>
-    ensures { Agrees (λ v. outcomes_model v.items) assemble_fault result (each (known_outcome_of_parts names.now tokens.now) (map part_outcome_of outcomes.entry.items)) }
+    ensures { Agrees (λ v. outcomes_model v.items) assemble_fault result (each (known_outcome_of_parts names.now tokens.now) (map part_outcome_of outcomes.now)) }
 {
     let mut found = Vec::with_capacity(alloc, outcomes.len())?;
     for outcome in outcomes {
@@ -115,17 +112,22 @@ fn known_outcomes(
     Ok(found)
 }
 
+// An outcome by numbers. A token that both seats are told is looked up once.
 fn known_outcome(
     names: &NameTable,
     tokens: &NameTable,
-    outcome: PartOutcome<&str>,
+    outcome: &PartOutcome<&str>,
 ) -> Result<Outcome, AssembleFault>
-    ensures { Agrees outcome_model assemble_fault result (known_outcome_of_parts names.now tokens.now (part_outcome_of outcome.entry)) }
+    ensures { Agrees outcome_model assemble_fault result (known_outcome_of_parts names.now tokens.now (part_outcome_of outcome.now)) }
 {
     let line = outcome.line;
     let next = number_in(names, line, 3, outcome.next)?;
     let own1 = number_in(tokens, line, 4, outcome.own1)?;
-    let own2 = number_in(tokens, line, 5, outcome.own2)?;
+    let own2 = if outcome.own2 == outcome.own1 {
+        own1
+    } else {
+        number_in(tokens, line, 5, outcome.own2)?
+    };
     let public = number_in(tokens, line, 6, outcome.public)?;
     Ok(Outcome {
         weight: outcome.weight,

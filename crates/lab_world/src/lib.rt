@@ -4,6 +4,7 @@
 mod assemble;
 mod game;
 mod known;
+mod made;
 mod name_list;
 mod named;
 mod number_set;

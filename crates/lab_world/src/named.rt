@@ -11,7 +11,7 @@ ghost use Rattle.lab_world.specs.Drafts.{
 };
 
 use super::parts::{PartOutcome, PartPlace, PartRow};
-use lab_seq::Seq;
+use lab_seq::{Few, Seq};
 use std::alloc::{AllocError, Global};
 
 /// The same places, whose names stand in these.
@@ -43,8 +43,8 @@ fn named_place<'a>(alloc: Global, place: &'a PartPlace) -> Result<PartPlace<&'a 
             let rows = named_rows(alloc, rows.as_slice())?;
             Ok(PartPlace::World {
                 line: *line,
-                one: Seq::from_vec(one),
-                two: Seq::from_vec(two),
+                one: Few::from_vec(one),
+                two: Few::from_vec(two),
                 rows: Seq::from_vec(rows),
             })
         }
@@ -83,7 +83,7 @@ fn named_row<'a>(alloc: Global, row: &'a PartRow) -> Result<PartRow<&'a str>, Al
         line: row.line,
         first: row.first.as_str(),
         second: row.second.as_str(),
-        outcomes: Seq::from_vec(outcomes),
+        outcomes: Few::from_vec(outcomes),
     })
 }
 

@@ -1,49 +1,36 @@
 //! Names of actions to numbers.
-ghost use Rattle.std.specs.Prelude.{◌≡◌, ◌∷◌, ◌<◌, [], length, map, nat_lt, true, IfOk, OnOk};
+ghost use Rattle.std.specs.Prelude.{◌≡◌, ◌∷◌, ◌++◌, ◌<◌, List, [], length, map, nat_lt, true, IfOk, OnOk};
 ghost use Rattle.std.specs.List.{list_all};
+ghost use Rattle.lab_defs_text.specs.Games as model;
 ghost use Rattle.lab_defs_text.specs.Texts.{name_of};
 ghost use Rattle.lab_lex.specs.Names.{name_bytes};
 ghost use Rattle.lab_world.specs.Models.{action_list, row_model, world_model, place_model};
 ghost use Rattle.lab_world.specs.Wholes.{with_new, action_names, place_fits};
 ghost use Rattle.lab_world.specs.Stages.{ordered_place_of, total_fits, totals_fit};
+ghost use Rattle.lab_world.specs.Made.{AreNumbered};
 ghost use Rattle.lab_world.specs.declared.place.Place.TheVariants as place;
 
 use super::place::{ActionId, Place, Row, World};
-use super::stages::OrderedPlace;
+use super::stages::{NumberedPlaces, OrderedPlace};
 use lab_lex::NameTable;
-use lab_seq::Seq;
+use lab_seq::{Few, Seq};
 use std::alloc::{AllocError, Global};
 
-/// Places with their actions by numbers, and the names of these.
-#[derive(Drop)]
-pub struct NumberedPlaces {
-    pub actions: NameTable,
-    pub places: Vec<Place>,
-}
-
-/// Numbers the names of actions in the order in which they first stand.
-pub fn numbered_places(
+/// Adds a place, whose actions get the next numbers where their names are new.
+pub fn add_numbered(
     alloc: Global,
-    places: Vec<OrderedPlace<'_>>,
-) -> Result<NumberedPlaces, AllocError>
-    requires { list_all totals_fit places.items ≡ true }
-    ensures places { IfOk result (λ n. map (place_model n.actions) n.places.items ≡ map ordered_place_of places.entry.items) }
-    ensures actions { IfOk result (λ n. n.actions ≡ action_names [] (map ordered_place_of places.entry.items)) }
-    ensures fits { IfOk result (λ n. list_all (place_fits (length n.actions)) n.places.items ≡ true) }
+    found: &mut NumberedPlaces,
+    place: OrderedPlace<'_>,
+) -> Result<(), AllocError>
+    requires { totals_fit place ≡ true }
+    ensures { OnOk result ((ms : List model.Place) → AreNumbered found.old ms → AreNumbered found.new (ms ++ ordered_place_of place.entry ∷ [])) }
 {
-    let Ok(mut actions) = NameTable::new(alloc) else {
-        return Err(AllocError);
-    };
-    let mut found = Vec::with_capacity(alloc, places.len())?;
-    for place in places {
-        found.push(numbered_place(alloc, &mut actions, place)?)?;
-    }
-    Ok(NumberedPlaces {
-        actions,
-        places: found,
-    })
+    let place = numbered_place(alloc, &mut found.actions, place)?;
+    found.places.push(place)?;
+    Ok(())
 }
 
+// A place with its actions by numbers.
 fn numbered_place(
     alloc: Global,
     actions: &mut NameTable,
@@ -63,6 +50,7 @@ fn numbered_place(
     }
 }
 
+// A world with its actions by numbers.
 fn numbered_world(
     alloc: Global,
     actions: &mut NameTable,
@@ -77,15 +65,27 @@ fn numbered_world(
 {
     let one = action_ids(alloc, actions, one)?;
     let two = action_ids(alloc, actions, two)?;
-    Ok(World {
-        one: Seq::from_vec(one),
-        two: Seq::from_vec(two),
-        rows,
-    })
+    Ok(World { one, two, rows })
 }
 
-// The numbers of the names of actions, which are added to the table where they are new.
+// The numbers of the names of actions, which are added to the table where they are new. One by itself takes no memory.
 fn action_ids(
+    alloc: Global,
+    actions: &mut NameTable,
+    names: &[&str],
+) -> Result<Few<ActionId>, AllocError>
+    ensures table { OnOk result (actions.new ≡ with_new actions.old (map name_bytes names.now)) }
+    ensures ids { IfOk result (λ ids. action_list actions.new ids ≡ map name_bytes names.now) }
+    ensures below { IfOk result (λ ids. list_all (λ (i : ActionId). nat_lt i.0 (length actions.new)) ids ≡ true) }
+{
+    if let [name] = names {
+        return Ok(Few::one(action_id(actions, name)?));
+    }
+    Ok(Few::from_vec(id_list(alloc, actions, names)?))
+}
+
+// Likewise, in a vector.
+fn id_list(
     alloc: Global,
     actions: &mut NameTable,
     names: &[&str],

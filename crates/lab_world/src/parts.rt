@@ -4,7 +4,7 @@ ghost use Rattle.lab_world.specs.declared.parts.AssembleFault.TheVariants.{Memor
 
 use super::place::Recall;
 use lab_lex::{NameTable, NoMemory};
-use lab_seq::Seq;
+use lab_seq::{Few, Seq};
 use std::alloc::{AllocError, AllocFailed};
 
 /// An outcome by names, with its line.
@@ -25,7 +25,7 @@ pub struct PartRow<T = String> {
     pub line: u32,
     pub first: T,
     pub second: T,
-    pub outcomes: Seq<PartOutcome<T>>,
+    pub outcomes: Few<PartOutcome<T>>,
 }
 
 /// A world with its rows as they were listed, or an end with what it pays seat 1. Its name stands in `Parts::names`.
@@ -33,8 +33,8 @@ pub struct PartRow<T = String> {
 pub enum PartPlace<T = String> {
     World {
         line: u32,
-        one: Seq<T>,
-        two: Seq<T>,
+        one: Few<T>,
+        two: Few<T>,
         rows: Seq<PartRow<T>>,
     },
     End {

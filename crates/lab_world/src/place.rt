@@ -1,5 +1,5 @@
 //! The places of a game: worlds with the outcomes of their joint actions, and ends.
-use lab_seq::Seq;
+use lab_seq::{Few, Seq};
 
 /// The number of a token, in the order of declaration.
 #[derive(Clone, Copy, Debug, PartialEq, Eq, PartialOrd, Ord)]
@@ -36,14 +36,14 @@ pub struct Outcome {
 pub struct Row {
     /// The weights together.
     pub total: u64,
-    pub outcomes: Seq<Outcome>,
+    pub outcomes: Few<Outcome>,
 }
 
 /// The actions of each seat, and a row for each joint action: by seat 1's action, then by seat 2's.
 #[derive(Drop)]
 pub struct World {
-    pub one: Seq<ActionId>,
-    pub two: Seq<ActionId>,
+    pub one: Few<ActionId>,
+    pub two: Few<ActionId>,
     pub rows: Seq<Row>,
 }
 

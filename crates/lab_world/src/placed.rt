@@ -1,48 +1,42 @@
 //! Rows to their joint actions.
-ghost use Rattle.std.specs.Prelude.{◌≡◌, ◌+◌, ◌*◌, ◌<◌, ◌^◌, [], map, length, true, IfOk, OnOk};
-ghost use Rattle.std.specs.List.{list_all};
+ghost use Rattle.std.specs.Prelude.{◌≡◌, [], map, true, IfOk, IfSome, OnOk};
 ghost use Rattle.lab_defs_text.specs.Words.{apart_after};
 ghost use Rattle.lab_defs_text.specs.Agreement.{Agrees};
-ghost use Rattle.lab_defs_text.specs.Steps.{each};
 ghost use Rattle.lab_defs_text.specs.Assembly.{action_of, place_rows as rows_placed, placed};
+ghost use Rattle.lab_defs_game.specs.Chance.{row_total};
 ghost use Rattle.lab_lex.specs.Names.{name_bytes};
 ghost use Rattle.lab_world.specs.Drafts.{assemble_fault};
+ghost use Rattle.lab_world.specs.Models.{row_model};
 ghost use Rattle.lab_world.specs.Stages.{
+  outcomes_model,
   known_apart,
   known_row_of,
   known_place_of,
   placed_rows_of,
   placed_place_of,
+  total_fits,
+  rows_fit,
+  placed_fits,
   with_row,
 };
 
 use super::name_list::NameList;
 use super::parts::AssembleFault;
-use super::place::Outcome;
+use super::place::{Outcome, Row};
 use super::row_numbers::RowNumbers;
 use super::stages::{KnownPlace, KnownRow, PlacedPlace, PlacedRows};
 use lab_lex::{NameTable, TableFault};
-use lab_seq::Seq;
+use lab_seq::Few;
 use std::alloc::{AllocError, Global};
 
-/// The places with the rows of each by their joint actions, or the first row that is one too many.
-pub fn placed_places<'a>(
+/// A place with its rows by their joint actions, or the first that is one too many.
+pub fn placed_place<'a>(
     alloc: Global,
-    places: Vec<KnownPlace<'a>>,
-) -> Result<Vec<PlacedPlace<'a>>, AssembleFault>
-    requires { list_all known_apart (map known_place_of places.items) ≡ true }
-    ensures { Agrees (λ v. map placed_place_of v.items) assemble_fault result (each placed (map known_place_of places.entry.items)) }
-{
-    let mut found = Vec::with_capacity(alloc, places.len())?;
-    for place in places {
-        found.push(placed_place(alloc, place)?)?;
-    }
-    Ok(found)
-}
-
-fn placed_place<'a>(alloc: Global, place: KnownPlace<'a>) -> Result<PlacedPlace<'a>, AssembleFault>
+    place: KnownPlace<'a>,
+) -> Result<PlacedPlace<'a>, AssembleFault>
     requires { known_apart (known_place_of place) ≡ true }
-    ensures { Agrees placed_place_of assemble_fault result (placed (known_place_of place.entry)) }
+    ensures place { Agrees placed_place_of assemble_fault result (placed (known_place_of place.entry)) }
+    ensures fit { IfOk result (λ p. placed_fits p ≡ true) }
 {
     match place {
         KnownPlace::World {
@@ -51,7 +45,7 @@ fn placed_place<'a>(alloc: Global, place: KnownPlace<'a>) -> Result<PlacedPlace<
             two,
             rows,
         } => {
-            let rows = rows_in_world(alloc, one.as_slice(), two.as_slice(), rows.into_vec())?;
+            let rows = rows_in_world(alloc, one.as_slice(), two.as_slice(), rows)?;
             Ok(PlacedPlace::World {
                 line,
                 one,
@@ -72,7 +66,8 @@ fn rows_in_world(
 ) -> Result<PlacedRows, AssembleFault>
     requires one { apart_after [] (map name_bytes one.now) ≡ true }
     requires two { apart_after [] (map name_bytes two.now) ≡ true }
-    ensures { Agrees placed_rows_of assemble_fault result (rows_placed (map name_bytes one.now) (map name_bytes two.now) [] (map known_row_of rows.entry.items)) }
+    ensures rows { Agrees placed_rows_of assemble_fault result (rows_placed (map name_bytes one.now) (map name_bytes two.now) [] (map known_row_of rows.entry.items)) }
+    ensures fit { IfOk result (λ p. rows_fit p ≡ true) }
 {
     let one = NameList::new(alloc, one)?;
     let two = NameList::new(alloc, two)?;
@@ -101,18 +96,20 @@ pub fn table_of(alloc: Global, names: &[&str]) -> Result<NameTable, AllocError>
     Ok(table)
 }
 
+// The rows by their joint actions.
 fn place_rows(
     alloc: Global,
     one: &NameList<'_>,
     two: &NameList<'_>,
     rows: Vec<KnownRow<'_>>,
 ) -> Result<PlacedRows, AssembleFault>
-    ensures { Agrees placed_rows_of assemble_fault result (rows_placed one.now two.now [] (map known_row_of rows.entry.items)) }
+    ensures rows { Agrees placed_rows_of assemble_fault result (rows_placed one.now two.now [] (map known_row_of rows.entry.items)) }
+    ensures fit { IfOk result (λ p. rows_fit p ≡ true) }
 {
-    let outcomes = Vec::with_capacity(alloc, rows.len())?;
+    let room = Vec::with_capacity(alloc, rows.len())?;
     let mut found = PlacedRows {
         numbers: RowNumbers::new(alloc),
-        outcomes,
+        rows: room,
     };
     for row in rows {
         place_row(&mut found, one, two, row)?;
@@ -127,17 +124,39 @@ fn place_row(
     two: &NameList<'_>,
     row: KnownRow<'_>,
 ) -> Result<(), AssembleFault>
-    requires even { length found.old.numbers ≡ length found.old.outcomes.items }
+    requires { rows_fit found.old ≡ true }
     ensures row { Agrees (λ _. placed_rows_of found.new) assemble_fault result (with_row one.now two.now (placed_rows_of found.old) (known_row_of row.entry)) }
-    ensures even { OnOk result (length found.new.numbers ≡ length found.new.outcomes.items) }
+    ensures fit { OnOk result (rows_fit found.new ≡ true) }
 {
     let number = joint_action(one, two, &row)?;
     if found.numbers.contains(number) {
         return Err(AssembleFault::ExtraRow { line: row.line });
     }
     found.numbers.add(number)?;
-    found.outcomes.push(row.outcomes)?;
+    found.rows.push(whole_row(row.outcomes)?)?;
     Ok(())
+}
+
+// The row with these outcomes and the total of their weights.
+fn whole_row(outcomes: Few<Outcome>) -> Result<Row, AllocError>
+    ensures outcomes { IfOk result (λ r. row_model r ≡ outcomes_model outcomes) }
+    ensures total { IfOk result (λ r. total_fits r ≡ true) }
+{
+    let Some(total) = total_of(outcomes.as_slice()) else {
+        return Err(AllocError);
+    };
+    Ok(Row { total, outcomes })
+}
+
+// The weights together; `None` past `u64`, for which no memory holds enough outcomes.
+fn total_of(outcomes: &[Outcome]) -> Option<u64>
+    ensures { IfSome result (λ n. n ≡ row_total (outcomes_model outcomes.now)) }
+{
+    let mut total = 0u64;
+    for outcome in outcomes {
+        total = total.checked_add(outcome.weight as u64)?;
+    }
+    Some(total)
 }
 
 // The number of a row's joint action.

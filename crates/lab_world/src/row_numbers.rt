@@ -1,6 +1,6 @@
 //! Numbers of rows that mostly come in order.
-ghost use Rattle.std.specs.Prelude.{◌≡◌, ◌++◌, ◌∷◌, [], position, false, nat_eq, OnOk, IfOk};
-ghost use Rattle.std.specs.List.{list_any};
+ghost use Rattle.std.specs.Prelude.{◌≡◌, ◌++◌, ◌∷◌, [], length, position, true, false, nat_eq, OnOk, IfOk};
+ghost use Rattle.std.specs.List.{list_any, range_with_len};
 
 use super::number_set::NumberSet;
 use std::alloc::{AllocError, Global};
@@ -64,6 +64,13 @@ impl RowNumbers {
                 Some(self.in_order as usize + place)
             }
         }
+    }
+
+    /// Tells that the numbers are 0, 1, .. in order; of other numbers it tells nothing.
+    pub fn are_in_order(&self) -> bool
+        ensures { result ≡ true → self.now ≡ range_with_len 0 (length self.now) }
+    {
+        self.others.is_none()
     }
 
     /// Adds a number that is not there.

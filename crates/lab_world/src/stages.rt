@@ -1,7 +1,9 @@
-//! What places are on the way from parts to a game: first outcomes become numbers, then rows get their joint actions, then they stand in order.
-use super::place::{Outcome, Row};
+//! What places are on the way from parts to a game: first outcomes become numbers, then rows get their joint actions, then they stand in order, and at last actions become numbers.
+use super::parts::AssembleFault;
+use super::place::{Outcome, Place, Row};
 use super::row_numbers::RowNumbers;
-use lab_seq::Seq;
+use lab_lex::NameTable;
+use lab_seq::{Few, Seq};
 
 /// A row whose outcomes are known by numbers.
 #[derive(Drop)]
@@ -9,7 +11,7 @@ pub struct KnownRow<'a> {
     pub line: u32,
     pub first: &'a str,
     pub second: &'a str,
-    pub outcomes: Seq<Outcome>,
+    pub outcomes: Few<Outcome>,
 }
 
 /// A place whose outcomes are known by numbers.
@@ -17,18 +19,18 @@ pub struct KnownRow<'a> {
 pub enum KnownPlace<'a> {
     World {
         line: u32,
-        one: Seq<&'a str>,
-        two: Seq<&'a str>,
-        rows: Seq<KnownRow<'a>>,
+        one: Few<&'a str>,
+        two: Few<&'a str>,
+        rows: Vec<KnownRow<'a>>,
     },
     End(i32),
 }
 
-/// The numbers of joint actions, each once, and beside them the outcomes of each.
+/// The numbers of joint actions, each once, and beside them the row of each.
 #[derive(Drop)]
 pub struct PlacedRows {
     pub numbers: RowNumbers,
-    pub outcomes: Vec<Seq<Outcome>>,
+    pub rows: Vec<Row>,
 }
 
 /// A place whose rows have their joint actions.
@@ -36,8 +38,8 @@ pub struct PlacedRows {
 pub enum PlacedPlace<'a> {
     World {
         line: u32,
-        one: Seq<&'a str>,
-        two: Seq<&'a str>,
+        one: Few<&'a str>,
+        two: Few<&'a str>,
         rows: PlacedRows,
     },
     End(i32),
@@ -47,16 +49,34 @@ pub enum PlacedPlace<'a> {
 #[derive(Drop)]
 pub enum OrderedPlace<'a> {
     World {
-        one: Seq<&'a str>,
-        two: Seq<&'a str>,
+        one: Few<&'a str>,
+        two: Few<&'a str>,
         rows: Seq<Row>,
     },
     End(i32),
 }
 
-/// Places with their rows in order, and the number of the root, a world.
+/// Places with their actions by numbers, and the names of these.
 #[derive(Drop)]
-pub struct RootedPlaces<'a> {
-    pub places: Vec<OrderedPlace<'a>>,
+pub struct NumberedPlaces {
+    pub actions: NameTable,
+    pub places: Vec<Place>,
+}
+
+/// What is made of the places so far.
+#[derive(Drop)]
+pub struct MadePlaces {
+    /// The places, while no row is at fault.
+    pub numbered: NumberedPlaces,
+    /// The first row that is one too many. It is a fault before any joint action that has no row.
+    pub extra: Option<AssembleFault>,
+    /// The first joint action that has no row.
+    pub missing: Option<AssembleFault>,
+}
+
+/// Places with the names of their actions, and the number of the root, a world.
+#[derive(Drop)]
+pub struct RootedPlaces {
+    pub numbered: NumberedPlaces,
     pub root: u32,
 }

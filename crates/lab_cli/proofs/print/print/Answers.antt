@@ -26,8 +26,8 @@ returns-in_err-check_end-clause-says g c =
 
 pub returns-in-Ok-clause-says : goal.returns-in-Ok-clause-says
 returns-in-Ok-clause-says g c =
-    found_alone print (g.S.Source.left c.args.source.now) c.read.new.reader.ahead (g.S.Source.left c.read.new.source) c.check_end.new.reader.ahead (g.S.Source.left c.check_end.new.source) c.in_ok-part.part.text.items c.in_ok-part.part.done c.in-Ok.text.items
-    c.in_ok-part.ensures.part (print_found c.in_ok-part.part.text.items c.in_ok-part.part.done (game_model c.in_ok-game.game) c.in-Ok.text.items (ap read_text (sym c.as_slice.ensures.value) ∙ c.in_ok-game.ensures) c.in-Ok.ensures)
+    found_alone print (g.S.Source.left c.args.source.now) c.read.new.reader.ahead (g.S.Source.left c.read.new.source) c.check_end.new.reader.ahead (g.S.Source.left c.check_end.new.source) c.in_ok-part.part.text.items c.in_ok-part.part.done c.write_game_over.new.text.items
+    c.in_ok-part.ensures.part (print_found c.in_ok-part.part.text.items c.in_ok-part.part.done (game_model c.in_ok-game.game) c.write_game_over.new.text.items (ap read_text (sym c.as_slice.ensures.value) ∙ c.in_ok-game.ensures) c.in-Ok.ensures)
     c.in_ok-check_end.ensures.takes c.in_ok-check_end.ensures.end
 
 pub returns-in_err-check_end-clause-advances : goal.returns-in_err-check_end-clause-advances
@@ -38,6 +38,6 @@ pub returns-in-Ok-clause-advances : goal.returns-in-Ok-clause-advances
 returns-in-Ok-clause-advances g c =
     advances_both (g.S.Source.left c.args.source.now) (g.S.Source.left c.read.new.source) (g.S.Source.left c.check_end.new.source) c.in_ok-part.ensures.advances c.check_end.ensures.advances
 
-pub returns-clause-advances : goal.returns-clause-advances
-returns-clause-advances g c =
+pub returns-in-Err-clause-advances : goal.returns-in-Err-clause-advances
+returns-in-Err-clause-advances g c =
     advances_both (g.S.Source.left c.args.source.now) (g.S.Source.left c.read.new.source) (g.S.Source.left c.check_end.new.source) c.in_ok-part.ensures.advances c.check_end.ensures.advances

@@ -23,4 +23,4 @@ returns-in_err-add_name-clause-line c =
 pub returns-clause-line : goal.returns-clause-line
 returns-clause-line c =
     world_begins c.args.line c.args.last c.args.draft.now c.close.new.draft (pieces c.args.rest.now) c.in_ok-word.word.now c.in_ok-name.name.now c.add_name.new.names
-    c.empty_world.result c.requires.named c.in_ok-close.ensures c.in_ok-word.ensures c.in_ok-name.ensures c.in_ok-add_name.ensures c.empty_world.ensures
+    c.begin_world.new.world c.requires.named c.in_ok-close.ensures c.in_ok-word.ensures c.in_ok-name.ensures c.in_ok-add_name.ensures c.begin_world.ensures

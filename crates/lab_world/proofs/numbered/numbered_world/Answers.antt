@@ -1,26 +1,25 @@
-use Rattle.std.proofs.Common.{◌∙◌, length, map, refl, ap}
+use Rattle.std.proofs.Common.{map, refl}
 use Rattle.lab_lex.specs.Names.{name_bytes}
 use Rattle.lab_defs_text.specs.Games as model
 use Rattle.lab_world.specs.declared.place.World.{World}
-use Rattle.lab_world.specs.Models.{row_model, action_list}
-use Rattle.lab_world.proofs.ActionNameLemmas.{ids_below}
+use Rattle.lab_world.specs.Models.{row_model}
 use Rattle.lab_world.proofs.PlaceLemmas.{world_named}
 use Rattle.lab_world.proofs.numbered.numbered_world.Goals as goal
 
 pub returns-clause-world : goal.returns-clause-world
 returns-clause-world c =
-    let w : World = record { one = c.from_vec.result; two = c.from_vec-2.result; rows = c.args.rows } in
+    let w : World = record { one = c.in_ok-one.one; two = c.in_ok-two.two; rows = c.args.rows } in
     let m : model.World = record { one = map name_bytes c.args.one.now; two = map name_bytes c.args.two.now; rows = map row_model c.args.rows } in
     let middle = c.action_ids.new.actions in
     let actions = c.action_ids-2.new.actions in
-    (world_named middle actions w m c.in_ok-two.ensures.table (ap (action_list middle) c.from_vec.ensures ∙ c.in_ok-one.ensures.ids) (ap (ids_below (length middle)) c.from_vec.ensures ∙ c.in_ok-one.ensures.below)
-    (ap (action_list actions) c.from_vec-2.ensures ∙ c.in_ok-two.ensures.ids) (ap (ids_below (length actions)) c.from_vec-2.ensures ∙ c.in_ok-two.ensures.below) refl c.requires).same
+    (world_named middle actions w m c.in_ok-two.ensures.table c.in_ok-one.ensures.ids c.in_ok-one.ensures.below
+    c.in_ok-two.ensures.ids c.in_ok-two.ensures.below refl c.requires).same
 
 pub returns-clause-fits : goal.returns-clause-fits
 returns-clause-fits c =
-    let w : World = record { one = c.from_vec.result; two = c.from_vec-2.result; rows = c.args.rows } in
+    let w : World = record { one = c.in_ok-one.one; two = c.in_ok-two.two; rows = c.args.rows } in
     let m : model.World = record { one = map name_bytes c.args.one.now; two = map name_bytes c.args.two.now; rows = map row_model c.args.rows } in
     let middle = c.action_ids.new.actions in
     let actions = c.action_ids-2.new.actions in
-    (world_named middle actions w m c.in_ok-two.ensures.table (ap (action_list middle) c.from_vec.ensures ∙ c.in_ok-one.ensures.ids) (ap (ids_below (length middle)) c.from_vec.ensures ∙ c.in_ok-one.ensures.below)
-    (ap (action_list actions) c.from_vec-2.ensures ∙ c.in_ok-two.ensures.ids) (ap (ids_below (length actions)) c.from_vec-2.ensures ∙ c.in_ok-two.ensures.below) refl c.requires).fits
+    (world_named middle actions w m c.in_ok-two.ensures.table c.in_ok-one.ensures.ids c.in_ok-one.ensures.below
+    c.in_ok-two.ensures.ids c.in_ok-two.ensures.below refl c.requires).fits

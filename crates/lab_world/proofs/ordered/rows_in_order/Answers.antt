@@ -1,56 +1,18 @@
-use Rattle.std.proofs.Common.{◌≡◌, ◌≢◌, ◌*◌, ◌-◌, ◌<◌, ◌/◌, ◌%◌, ◌++◌, ◌∷◌, [], ℕ, List, Some, None, map, true, refl, ap, sym, subst, ◌∙◌, rules, arith}
-use Rattle.std.specs.Option.{option_map}
-use Rattle.std.specs.List.{list_all, range_with_len}
-use Rattle.std.proofs.lemmas.List.{map-append}
-use Rattle.lab_math.proofs.ListTests.{all_push}
+use Rattle.std.proofs.Common.{◌≡◌, ◌*◌, rules, ℕ, Ok, map, length, subst}
+use Rattle.std.specs.List.{range_with_len}
 use Rattle.lab_defs_text.specs.Steps.{each}
-use Rattle.lab_defs_text.specs.Agreement.{FaultAgrees}
-use Rattle.lab_defs_text.specs.Assembly.{row_at, row_of}
-use Rattle.lab_world.specs.declared.place.Row.{Row}
-use Rattle.lab_world.specs.declared.parts.AssembleFault.{AssembleFault}
-use Rattle.lab_world.specs.declared.parts.AssembleFault.TheVariants.{MissingRow}
-use Rattle.lab_world.specs.Drafts.{assemble_fault}
+use Rattle.lab_defs_text.specs.Assembly.{row_at}
 use Rattle.lab_world.specs.Models.{row_model}
-use Rattle.lab_world.specs.Stages.{outcomes_model, placed_rows_of, total_fits}
-use Rattle.lab_world.proofs.EachLemmas.{each_on, each_first}
-use Rattle.lab_world.proofs.OrderLemmas.{row_next, row_missing}
+use Rattle.lab_world.specs.Stages.{placed_rows_of}
+use Rattle.lab_world.proofs.RowLemmas.{rows_that_fit}
+use Rattle.lab_world.proofs.OrderLemmas.{rows_in_order}
 use Rattle.lab_world.proofs.ordered.rows_in_order.Goals as goal
 
-pub loop-number-init : goal.loop-number-init
-loop-number-init c =
-    let step = row_at c.args.line c.args.two (placed_rows_of c.args.placed) in
-    let count = c.args.one * c.args.two in
-    let all : count - 0 ≡ count = omega arith in
-    record {
-      made = ap (λ (rs : List Row). each_on step (map row_model rs) (range_with_len 0 (count - 0))) c.in_ok-found.ensures.items
-          ∙ ap (λ (n : ℕ). each_on step [] (range_with_len 0 n)) all ∙ each_first step (range_with_len 0 count);
-      kept = λ k le. refl;
-      totals = ap (λ (rs : List Row). list_all total_fits rs) c.in_ok-found.ensures.items;
-    }
-
-pub loop-number-preserved : goal.loop-number-preserved
-loop-number-preserved c =
-    let rows = placed_rows_of c.args.placed in
-    let i = c.loop-number.number in
-    let few : i < c.args.one * c.args.two = search rules in
-    let row = c.in_ok-whole_row.field-0 in
-    let there : row_of i rows ≡ Some (row_model row) = sym (c.loop-number.invariant.kept i (omega arith)) ∙ sym c.take_row.ensures.taken ∙ ap (option_map outcomes_model) c.in-Some.is ∙ ap Some (sym c.in_ok-whole_row.ensures.outcomes) in
-    let made : map row_model c.push.new.self.items ≡ map row_model c.loop-number.found.items ++ row_model row ∷ [] = ap (map row_model) c.in_ok-push.ensures.items ∙ map-append row_model c.loop-number.found.items (row ∷ []) in
-    record {
-      made = row_next c.args.line c.args.two rows (map row_model c.loop-number.found.items) (map row_model c.push.new.self.items) i (c.args.one * c.args.two) (row_model row)
-          (each (row_at c.args.line c.args.two rows) (range_with_len 0 (c.args.one * c.args.two))) few there made c.loop-number.invariant.made;
-      kept = λ k le. let ne : k ≢ i = omega (arith, le) in c.take_row.ensures.others k ne ∙ c.loop-number.invariant.kept k (omega (arith, le));
-      totals = subst (λ (rs : List Row). list_all total_fits rs ≡ true) (sym c.in_ok-push.ensures.items) (all_push total_fits c.loop-number.found.items row c.loop-number.invariant.totals c.in_ok-whole_row.ensures.total);
-    }
-
-pub returns-in_default-take_row-clause-rows : goal.returns-in_default-take_row-clause-rows
-returns-in_default-take_row-clause-rows c =
-    let rows = placed_rows_of c.args.placed in
-    let i = c.loop-number.number in
-    let few : i < c.args.one * c.args.two = search rules in
-    let gone : c.take_row.result ≡ None = search rules in
-    let none : row_of i rows ≡ None = sym (c.loop-number.invariant.kept i (omega arith)) ∙ sym c.take_row.ensures.taken ∙ ap (option_map outcomes_model) gone in
-    let all = each (row_at c.args.line c.args.two rows) (range_with_len 0 (c.args.one * c.args.two)) in
-    let fault : c.missing_row.result ≡ MissingRow c.args.line (i / c.args.two) (i % c.args.two) = search rules in
-    subst (λ (e : AssembleFault). FaultAgrees (assemble_fault e) all) (sym fault)
-    (row_missing c.args.line c.args.two rows (map row_model c.loop-number.found.items) i (c.args.one * c.args.two) all few none c.loop-number.invariant.made)
+pub returns-then-are_in_order-clause-rows : goal.returns-then-are_in_order-clause-rows
+returns-then-are_in_order-clause-rows c =
+    let ks = c.args.placed.numbers in
+    let rs = c.args.placed.rows.items in
+    let h = rows_that_fit ks rs c.requires in
+    let count : length rs ≡ c.args.one * c.args.two = search rules in
+    let all = rows_in_order c.args.line c.args.two ks rs h.even (c.are_in_order.ensures c.if-are_in_order.true) in
+    subst (λ (n : ℕ). each (row_at c.args.line c.args.two (placed_rows_of c.args.placed)) (range_with_len 0 n) ≡ Ok (map row_model rs)) count all

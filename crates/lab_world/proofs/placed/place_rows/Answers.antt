@@ -1,7 +1,10 @@
-use Rattle.std.proofs.Common.{◌≡◌, [], List, ℕ, length, map, ap, sym, ◌∙◌, rules}
+use Rattle.std.proofs.Common.{◌≡◌, [], List, ℕ, length, map, ap, ◌∙◌, rules}
+use Rattle.std.specs.Prelude.{◌==◌, ◌&&◌}
+use Rattle.std.specs.List.{list_all}
 use Rattle.std.specs.Vec.Iter.{into_iter_items}
+use Rattle.lab_world.specs.declared.place.Row.{Row}
 use Rattle.lab_world.specs.declared.stages.KnownRow.{KnownRow}
-use Rattle.lab_world.specs.Stages.{known_row_of, numbered_rows}
+use Rattle.lab_world.specs.Stages.{known_row_of, numbered_rows, total_fits}
 use Rattle.lab_world.proofs.RowLemmas.{rows_on, rows_first}
 use Rattle.lab_world.proofs.placed.place_rows.Goals as goal
 
@@ -12,7 +15,8 @@ loop-row-init c =
     let two = c.args.two.now in
     let rows = into_iter_items c.into_iter-row-iterator.result in
     record {
-      made = ap (λ (ks : List ℕ). rows_on one two (numbered_rows ks c.in_ok-outcomes.outcomes.items) (map known_row_of rows)) c.new.ensures
+      made = ap (λ (ks : List ℕ). rows_on one two (numbered_rows ks c.in_ok-room.room.items) (map known_row_of rows)) c.new.ensures
           ∙ ap (λ (rs : List KnownRow). rows_on one two [] (map known_row_of rs)) all ∙ rows_first one two (map known_row_of c.args.rows.items);
-      even = ap length c.new.ensures ∙ sym (ap length c.in_ok-outcomes.ensures.items);
+      fit = ap (λ (ks : List ℕ). length ks == length c.in_ok-room.room.items && list_all total_fits c.in_ok-room.room.items) c.new.ensures
+          ∙ ap (λ (rs : List Row). 0 == length rs && list_all total_fits rs) c.in_ok-room.ensures.items;
     }

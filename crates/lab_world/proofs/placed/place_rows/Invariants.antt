@@ -1,12 +1,12 @@
-use Rattle.std.proofs.Common.{◌≡◌, map, [], length}
+use Rattle.std.proofs.Common.{◌≡◌, map, [], true}
 use Rattle.std.specs.Vec.Iter.{into_iter_items}
 use Rattle.lab_defs_text.specs.Assembly.{place_rows}
-use Rattle.lab_world.specs.Stages.{known_row_of, placed_rows_of}
+use Rattle.lab_world.specs.Stages.{known_row_of, placed_rows_of, rows_fit}
 use Rattle.lab_world.proofs.RowLemmas.{rows_on}
 use Rattle.lab_world.proofs.placed.place_rows.Given as goal
 
 abbrev pub invariant-loop-row : goal.invariant-loop-row
 invariant-loop-row l = record {
   made : rows_on l.one l.two (placed_rows_of l.found) (map known_row_of (into_iter_items l.row-iterator)) ≡ place_rows l.one l.two [] (map known_row_of l.fn.rows.items);
-  even : length l.found.numbers ≡ length l.found.outcomes.items;
+  fit : rows_fit l.found ≡ true;
 }

@@ -24,33 +24,33 @@ rooted_places-requires c =
     subst (λ (ps : List (PartPlace (Bor Bytes))). list_all part_ok (map (part_place_of []) ps) ≡ true) (sym c.into_vec.ensures)
     (sym (named [] [] p.names p.places c.requires.named).ok_same ∙ (parts_are_draft (named_draft_of p) c.requires.fit).0.places)
 
-pub returns-in_err-places : goal.returns-in_err-places
-returns-in_err-places c =
+pub returns-in_err-numbered : goal.returns-in_err-numbered
+returns-in_err-numbered c =
     let p = c.args.parts in
     let same = rooted_same p c.into_vec.result.items (sym c.into_vec.ensures) in
-    let fault = c.in_err-places.field-0.0 in
+    let fault = c.in_err-numbered.field-0.0 in
     let q = err_from_is_err_and c.from_residual.result c.from_residual.ensures.1 in
     let answer = assembled (named_draft_of p) in
-    let agrees = assembled_fault p (assemble_fault fault) c.requires.named (subst (λ (r : Result Rooted TextFault). FaultAgrees (assemble_fault fault) r) (sym same) c.in_err-places.ensures.places) in
+    let agrees = assembled_fault p (assemble_fault fault) c.requires.named (subst (λ (r : Result Rooted TextFault). FaultAgrees (assemble_fault fault) r) (sym same) c.in_err-numbered.ensures.places) in
     subst (λ (r : Result Game AssembleFault). Agrees game_model assemble_fault r answer) (sym (q.1 ∙ ap Err q.2)) agrees
 
 pub invariant_of-result : goal.invariant_of-result
 invariant_of-result c =
     let p = c.args.parts in
     let same = rooted_same p c.into_vec.result.items (sym c.into_vec.ensures) in
-    let actions = c.in_ok-actions.field-0.actions in
-    let r = rooted_of c.in_ok-places.field-0 in
-    let places : map (place_model actions) c.from_vec.result ≡ r.places = ap (map (place_model actions)) c.from_vec.ensures ∙ c.in_ok-actions.ensures.places in
-    let made = assembled_game p r actions c.from_vec.result c.requires.named (same ∙ c.in_ok-places.ensures.places) places in
+    let made = c.in_ok-numbered.field-0 in
+    let actions = made.numbered.actions in
+    let places : map (place_model actions) c.from_vec.result ≡ (rooted_of made).places = ap (map (place_model actions)) c.from_vec.ensures in
+    let game = assembled_game p (rooted_of made) actions c.from_vec.result c.requires.named (same ∙ c.in_ok-numbered.ensures.places) places in
     record {
-      whole = whole_is (named_draft_of p) p.grid p.horizon p.recall p.tokens p.names actions c.from_vec.result (record { 0 = c.in_ok-places.field-0.root }) c.requires.fit made
-          (ap (list_all (place_fits _)) c.from_vec.ensures ∙ c.in_ok-actions.ensures.fits) (c.in_ok-actions.ensures.actions ∙ ap (action_names []) (sym places));
+      whole = whole_is (named_draft_of p) p.grid p.horizon p.recall p.tokens p.names actions c.from_vec.result (record { 0 = made.root }) c.requires.fit game
+          (ap (list_all (place_fits _)) c.from_vec.ensures ∙ c.in_ok-numbered.ensures.numbered.fits) (c.in_ok-numbered.ensures.numbered.names ∙ ap (action_names []) (sym places));
     }
 
 pub returns : goal.returns
 returns c =
     let p = c.args.parts in
     let same = rooted_same p c.into_vec.result.items (sym c.into_vec.ensures) in
-    let actions = c.in_ok-actions.field-0.actions in
-    assembled_game p (rooted_of c.in_ok-places.field-0) actions c.from_vec.result c.requires.named (same ∙ c.in_ok-places.ensures.places)
-    (ap (map (place_model actions)) c.from_vec.ensures ∙ c.in_ok-actions.ensures.places)
+    let made = c.in_ok-numbered.field-0 in
+    let actions = made.numbered.actions in
+    assembled_game p (rooted_of made) actions c.from_vec.result c.requires.named (same ∙ c.in_ok-numbered.ensures.places) (ap (map (place_model actions)) c.from_vec.ensures)

@@ -7,7 +7,7 @@ use Rattle.lab_world.specs.declared.place.ActionId.{ActionId}
 use Rattle.lab_world.specs.Models.{action_list}
 use Rattle.lab_world.specs.Wholes.{with_new}
 use Rattle.lab_world.proofs.ActionNameLemmas.{ids_below, action_list_push, ids_below_push}
-use Rattle.lab_world.proofs.numbered.action_ids.Goals as goal
+use Rattle.lab_world.proofs.numbered.id_list.Goals as goal
 
 pub loop-i-preserved : goal.loop-i-preserved
 loop-i-preserved c =

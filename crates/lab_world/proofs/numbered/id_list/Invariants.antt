@@ -4,7 +4,7 @@ use Rattle.lab_lex.specs.Names.{name_bytes}
 use Rattle.lab_world.specs.declared.place.ActionId.{ActionId}
 use Rattle.lab_world.specs.Models.{action_list}
 use Rattle.lab_world.specs.Wholes.{with_new}
-use Rattle.lab_world.proofs.numbered.action_ids.Given as goal
+use Rattle.lab_world.proofs.numbered.id_list.Given as goal
 
 abbrev pub invariant-loop-i : goal.invariant-loop-i
 invariant-loop-i l = record {
