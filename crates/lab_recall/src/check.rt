@@ -1,19 +1,19 @@
 //! From the histories of a game to whether it has perfect recall.
 
-ghost use Rattle.std.specs.Prelude.{◌≡◌, ◌⊎◌, None, IfOk, OnOk, IfErr};
+ghost use Rattle.std.specs.Prelude.{◌≡◌, None, IfOk, OnOk, IfErr};
 ghost use Rattle.lab_defs_text.specs.Games.{by_seen};
-ghost use Rattle.lab_defs_game.specs.Laws.{AlikeNames, Remembers};
-ghost use Rattle.lab_defs_game.specs.Recall.{one_set, recall_fault};
+ghost use Rattle.lab_defs_game.specs.Laws.{Remembers};
+ghost use Rattle.lab_defs_game.specs.Recall.{recall_fault};
 ghost use Rattle.lab_world.specs.Games.{game_model};
 ghost use Rattle.lab_world.specs.Models.{recall_model};
 ghost use Rattle.lab_unfold.specs.Values.{unfolded};
-ghost use Rattle.lab_seen.specs.Firsts.{AreFirsts, is_inner};
-ghost use Rattle.lab_recall.specs.Faults.{IsFault, IsNamesFault, IsForgotten};
+ghost use Rattle.lab_seen.specs.SetFirsts.{AreSetFirsts};
+ghost use Rattle.lab_recall.specs.Faults.{IsFault, IsForgotten};
 
 use super::memory::check_memory;
 use super::names::check_names;
 use crate::RecallFault;
-use lab_seen::first_of_sets;
+use lab_seen::{SetFirsts, set_firsts};
 use lab_unfold::Histories;
 use lab_world::{Game, Recall};
 use std::alloc::Global;
@@ -25,46 +25,43 @@ pub fn check_sets(alloc: Global, game: &Game, histories: &Histories) -> Result<(
     ensures none { OnOk result (recall_fault (game_model game.now) ≡ None) }
     ensures fault { IfErr result (λ e. IsFault (game_model game.now) e) }
 {
-    let one = checked_sets(alloc, game, histories, 1)?;
-    let two = checked_sets(alloc, game, histories, 2)?;
-    check_memories(alloc, game, histories, one.as_slice(), two.as_slice())
+    checked_sets(alloc, game, histories)?;
+    Ok(())
 }
 
-// The first history of each set of a seat, if at the histories of each set its actions have the same names.
-fn checked_sets(
+/// Likewise, and gives the first histories of the information sets.
+pub fn checked_sets(
     alloc: Global,
     game: &Game,
     histories: &Histories,
-    seat: u32,
-) -> Result<Vec<u32>, RecallFault>
+) -> Result<SetFirsts, RecallFault>
     requires unfolded { histories.now ≡ unfolded (game_model game.now) }
-    requires seat { (seat ≡ 1) ⊎ (seat ≡ 2) }
-    ensures firsts { IfOk result (λ v. AreFirsts (is_inner (game_model game.now)) (one_set (game_model game.now) seat) histories.now.histories v.items) }
-    ensures none { OnOk result (AlikeNames (game_model game.now) seat) }
-    ensures fault { IfErr result (λ e. IsNamesFault (game_model game.now) seat e) }
+    ensures firsts { IfOk result (λ f. AreSetFirsts (game_model game.now) f) }
+    ensures none { OnOk result (recall_fault (game_model game.now) ≡ None) }
+    ensures fault { IfErr result (λ e. IsFault (game_model game.now) e) }
 {
-    let firsts = first_of_sets(alloc, game, histories, seat)?;
-    check_names(game, histories, firsts.as_slice(), seat)?;
+    let firsts = set_firsts(alloc, game, histories)?;
+    check_names(game, histories, firsts.one.as_slice(), 1)?;
+    check_names(game, histories, firsts.two.as_slice(), 2)?;
+    check_memories(alloc, game, histories, &firsts)?;
     Ok(firsts)
 }
 
-// Checks that the tokens of each seat tell its own actions, if they have to, by the first histories of the sets of seat 1 and of seat 2.
+// Checks that the tokens of each seat tell its own actions, if they have to, by the first histories of the sets.
 fn check_memories(
     alloc: Global,
     game: &Game,
     histories: &Histories,
-    one: &[u32],
-    two: &[u32],
+    firsts: &SetFirsts,
 ) -> Result<(), RecallFault>
     requires unfolded { histories.now ≡ unfolded (game_model game.now) }
-    requires one { AreFirsts (is_inner (game_model game.now)) (one_set (game_model game.now) 1) histories.now.histories one.now }
-    requires two { AreFirsts (is_inner (game_model game.now)) (one_set (game_model game.now) 2) histories.now.histories two.now }
+    requires firsts { AreSetFirsts (game_model game.now) firsts.now }
     ensures none { OnOk result (recall_model game.now.recall ≡ by_seen → Remembers (game_model game.now) 1 × Remembers (game_model game.now) 2) }
     ensures fault { IfErr result (λ e. IsForgotten (game_model game.now) e) }
 {
     if game.recall == Recall::Acts {
         return Ok(());
     }
-    check_memory(alloc, game, histories, one, 1)?;
-    check_memory(alloc, game, histories, two, 2)
+    check_memory(alloc, game, histories, firsts.one.as_slice(), 1)?;
+    check_memory(alloc, game, histories, firsts.two.as_slice(), 2)
 }

@@ -1,4 +1,5 @@
 pub mod Items
 pub mod Firsts
+pub mod SetFirsts
 pub mod Traces
 pub mod Links

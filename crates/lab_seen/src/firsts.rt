@@ -18,7 +18,7 @@ pub fn firsts(alloc: Global, links: &[Option<Link>]) -> Result<Vec<u32>, AllocEr
     ensures { IfOk result (λ v. (all : List (List Item)) → IsGrown all links.now → AreFirstLists all v.items) }
 {
     let mut kept = BTreeMap::new(alloc);
-    let mut firsts = Vec::new(alloc);
+    let mut firsts = Vec::with_capacity(alloc, links.len())?;
     for _ in 0..links.len() {
         let first = next_first(&mut kept, links, firsts.as_slice())?;
         firsts.push(first)?;

@@ -6,6 +6,8 @@ mod item;
 mod link;
 mod links;
 mod seen;
+mod sets;
 
 pub use item::{Item, last_seen};
-pub use seen::{first_of_nodes, first_of_sets, first_of_tokens};
+pub use seen::{first_of_nodes, first_of_sets, first_of_tokens, set_firsts};
+pub use sets::SetFirsts;

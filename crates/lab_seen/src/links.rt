@@ -25,7 +25,7 @@ pub fn links(
     ensures grown { IfOk result (λ v. IsGrown (traces (game_model game.now) seat kept) v.items) }
     ensures few { IfOk result (λ v. length v.items ≤ 65536) }
 {
-    let mut links = Vec::new(alloc);
+    let mut links = Vec::with_capacity(alloc, histories.count() as usize)?;
     for number in 0..histories.count() {
         links.push(link(game, histories, seat, kept, HistoryId(number)))?;
     }

@@ -6,11 +6,13 @@ ghost use Rattle.lab_world.specs.Games.{game_model};
 ghost use Rattle.lab_unfold.specs.Values.{unfolded};
 ghost use Rattle.lab_seen.specs.Firsts.{AreFirsts, is_inner, one_node, same_tokens};
 ghost use Rattle.lab_seen.specs.Links.{AreFirstLists};
+ghost use Rattle.lab_seen.specs.SetFirsts.{AreSetFirsts};
 ghost use Rattle.lab_seen.specs.Traces.{traces};
 
 use super::firsts::firsts;
 use super::link::Kept;
 use super::links::links;
+use crate::SetFirsts;
 use lab_unfold::Histories;
 use lab_world::Game;
 use std::alloc::{AllocError, Global};
@@ -40,6 +42,20 @@ pub fn first_of_sets(
     ensures { IfOk result (λ v. AreFirsts (is_inner (game_model game.now)) (one_set (game_model game.now) seat) histories.now.histories v.items) }
 {
     first_histories(alloc, game, histories, seat, Kept::Whole)
+}
+
+/// The first histories of the information sets of both seats.
+pub fn set_firsts(
+    alloc: Global,
+    game: &Game,
+    histories: &Histories,
+) -> Result<SetFirsts, AllocError>
+    requires unfolded { histories.now ≡ unfolded (game_model game.now) }
+    ensures { IfOk result (λ f. AreSetFirsts (game_model game.now) f) }
+{
+    let one = first_of_sets(alloc, game, histories, 1)?;
+    let two = first_of_sets(alloc, game, histories, 2)?;
+    Ok(SetFirsts { one, two })
 }
 
 /// For each history that is not terminal, the number of the first such one with the same private and public tokens of a seat, 1 or 2.
