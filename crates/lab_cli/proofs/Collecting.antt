@@ -13,7 +13,7 @@ use Rattle.lab_io.proofs.Givings.{Takes-append, Takes-all}
 use Rattle.lab_defs_text.specs.Words.{Bytes, lines}
 use Rattle.lab_defs_report.specs.Refusals.{Refusal, refused}
 use Rattle.lab_defs_report.specs.Cuts.{game_limit, cut_at, cut_refused, cut_from}
-use Rattle.lab_defs_report.specs.Modes.{cut}
+use Rattle.lab_defs_report.specs.Modes.{input_cut}
 use Rattle.lab_cli.specs.declared.stop.Stop.{Stop}
 use Rattle.lab_cli.specs.declared.stop.Stop.TheVariants as stop
 use Rattle.lab_cli.specs.Stops.{IsRefusal, Advances}
@@ -26,7 +26,7 @@ use Rattle.lab_cli.proofs.LineCuts.{line_cut, ends_short, ends_inside, too_long_
 -- whole lines that came next, none of them `done`; the next one has the number n
 pub record Collected (old : Option Bytes) (ahead : Bytes) (left : Option Bytes) (text : Bytes) (n : ℕ) : Type 0 where
   pub takes : Takes [] old ahead left text
-  pub cuts : (ended : Bool) (y : Bytes) → cut ended (text ++ y) ≡ cut_from ended n text (lines y)
+  pub cuts : (ended : Bool) (y : Bytes) → input_cut ended (text ++ y) ≡ cut_from ended n text (lines y)
   pub few : n ≤ length text + 1
 
 -- nothing came where nothing was read
@@ -48,7 +48,7 @@ pub collected_more : (old left new : Option Bytes) (ahead rest text line : Bytes
 collected_more old left new ahead rest text line n c t whole h other = record {
   takes = Takes-append c.takes t;
   cuts = λ ended y.
-      ap (cut ended) (append_assoc text (line ++ 10 ∷ []) y ∙ ap (λ x. text ++ x) (append_assoc line (10 ∷ []) y)) ∙ c.cuts ended (line ++ 10 ∷ y)
+      ap (input_cut ended) (append_assoc text (line ++ 10 ∷ []) y ∙ ap (λ x. text ++ x) (append_assoc line (10 ∷ []) y)) ∙ c.cuts ended (line ++ 10 ∷ y)
       ∙ line_cut ended n text line y whole h ∙ (rw other refl) ∙ ap (λ t. cut_from ended (n + 1) t (lines y)) (append_assoc text line (10 ∷ []));
   few = omega (arith, c.few, length-append text (line ++ 10 ∷ []), length-append line (10 ∷ []));
 }
@@ -59,7 +59,7 @@ pub collected_lines : (old left : Option Bytes) (a b : Reader) (text more : Byte
 collected_lines old left a b text more n count c fits g =
     subst (λ t. Collected old b.ahead left t (n + count)) (sym g.text) (record {
       takes = record { taken = c.takes.taken; consumed = c.takes.consumed; split = c.takes.split ∙ ap (λ x. text ++ x) g.ahead ∙ sym (append_assoc text g.given b.ahead) };
-      cuts = λ ended y. ap (cut ended) (append_assoc text g.given y) ∙ c.cuts ended (g.given ++ y) ∙ plain_cut ended n count text g.given y g.lines g.short (omega (arith, fits, g.paid));
+      cuts = λ ended y. ap (input_cut ended) (append_assoc text g.given y) ∙ c.cuts ended (g.given ++ y) ∙ plain_cut ended n count text g.given y g.lines g.short (omega (arith, fits, g.paid));
       few = omega (arith, c.few, length-append text g.given, plain_few g.given count g.lines);
     })
 
@@ -79,7 +79,7 @@ part_found old left new ahead rest text line n c t whole h last = record {
 
 -- a refusal that is known of the bytes that were taken
 cuts_off : (F : Type 0) (old new : Option Bytes) (taken : Bytes) (ended : Bool) (r : Refusal) (s : Stop) → IsRefusal r s → Consumes old new taken → (IsTrue ended → IsAtEnd new)
-    → cut ended taken ≡ cut_refused r → CutsOff F old new s
+    → input_cut ended taken ≡ cut_refused r → CutsOff F old new s
 cuts_off F old new taken ended r (stop.Refused out) h c e k = record { taken = taken; consumed = c; ended = ended; at_end = e; refusal = r; cuts = k; tells = h }
 cuts_off F old new taken ended r stop.ReadFault h c e k = absurd h
 cuts_off F old new taken ended r stop.Memory h c e k = tt

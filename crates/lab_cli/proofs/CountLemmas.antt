@@ -1,13 +1,13 @@
 -- What is counted of a game is counted of its tree.
-use Rattle.std.proofs.Common.{◌≡◌, ℕ, ◌+◌, ◌<◌, List, [], ◌∷◌, length, map, get_or, cond, Bool, true, false, refl, sym, ap, ◌∙◌, subst, arith, inl}
+use Rattle.std.proofs.Common.{◌≡◌, ℕ, ◌+◌, ◌<◌, List, [], ◌∷◌, length, map, get_or, cond, refl, ap, ◌∙◌, subst, arith}
 use Rattle.std.specs.Ordering.{is_lt}
 use Rattle.std.proofs.lemmas.List.{length-map, get_or-map}
 use Rattle.lab_math.proofs.Members.{In}
 use Rattle.lab_defs_text.specs.Games.{GameModel}
 use Rattle.lab_defs_game.specs.Keys.{count, number_of, list_cmp}
 use Rattle.lab_defs_game.specs.Histories.{histories}
-use Rattle.lab_defs_game.specs.Sets.{Item, publics, public_list, sets}
-use Rattle.lab_defs_game.specs.Nodes.{nodes, begins, span_from, span_to}
+use Rattle.lab_defs_game.specs.Sets.{Item, publics, sets}
+use Rattle.lab_defs_game.specs.Nodes.{nodes, begins, span_to}
 use Rattle.lab_defs_game.specs.Counts.{counts_of}
 use Rattle.lab_defs_game.proofs.GameLemmas.{node_has, nodes_ascending}
 use Rattle.lab_defs_game.proofs.Legal.{legal_history}

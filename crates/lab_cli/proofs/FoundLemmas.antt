@@ -18,7 +18,7 @@ use Rattle.lab_defs_report.specs.Refusals.{Refusal, refused}
 use Rattle.lab_defs_report.specs.Answers.{Answer, answer, refusing}
 use Rattle.lab_defs_report.specs.Cuts.{commands_limit, cut_at, cut_refused, goes_on}
 use Rattle.lab_defs_report.specs.GameModes.{read_text, playable, check_cut, counts_line}
-use Rattle.lab_defs_report.specs.Modes.{Mode, session, check, print, cut}
+use Rattle.lab_defs_report.specs.Modes.{Mode, session, check, print, input_cut}
 use Rattle.lab_defs_report.specs.Reports.{built_answer, commands_answer, session_answer, not_built}
 use Rattle.lab_defs_report.proofs.CutLemmas.{cut_goes_on, lines_append, lines_some, none_continued}
 use Rattle.lab_cli.specs.declared.stop.Stop.{Stop}
@@ -29,8 +29,8 @@ use Rattle.lab_cli.proofs.Collecting.{stopped_bytes}
 
 -- an input that is refused by the cut, or by what is found of its game, is refused in this mode
 pub record Refuses (m : Mode) (found : Bytes → ℕ → Result GameModel Refusal) : Type 0 where
-  pub by_cut : (ended : Bool) (input : Bytes) (r : Refusal) → cut ended input ≡ cut_refused r → built_answer ended input (Some m) ≡ refusing r
-  pub by_game : (ended : Bool) (input text : Bytes) (n : ℕ) (ls : List Bytes) (r : Refusal) → cut ended input ≡ cut_at text n ls → found text n ≡ Err r → built_answer ended input (Some m) ≡ refusing r
+  pub by_cut : (ended : Bool) (input : Bytes) (r : Refusal) → input_cut ended input ≡ cut_refused r → built_answer ended input (Some m) ≡ refusing r
+  pub by_game : (ended : Bool) (input text : Bytes) (n : ℕ) (ls : List Bytes) (r : Refusal) → input_cut ended input ≡ cut_at text n ls → found text n ≡ Err r → built_answer ended input (Some m) ≡ refusing r
 
 pub print_refuses : Refuses print (λ text n. read_text text)
 print_refuses = record { by_cut = λ ended input r e. rw e refl; by_game = λ ended input text n ls r e t. rw (e, t) refl }
@@ -62,7 +62,7 @@ says_cut_off F m found old new stop.ReadFault p h = h
 says_cut_off F m found old new stop.Memory p h = tt
 
 -- what stands behind the lines of a game
-cut_behind : (old : Option Bytes) (ahead : Bytes) (left : Option Bytes) (text : Bytes) (n : ℕ) → IsGamePart old ahead left text n → (ended : Bool) (y : Bytes) → cut ended (text ++ y) ≡ cut_at text n (lines y)
+cut_behind : (old : Option Bytes) (ahead : Bytes) (left : Option Bytes) (text : Bytes) (n : ℕ) → IsGamePart old ahead left text n → (ended : Bool) (y : Bytes) → input_cut ended (text ++ y) ≡ cut_at text n (lines y)
 cut_behind old ahead left text n p ended y =
     let on = cut_goes_on ended 1 [] (lines text) (lines y) (lines_some y) in
     rw (lines_append text y) ((rw p.cuts at on) ∙ ap (cut_at text n) (none_continued (lines y) (lines_some y)))
@@ -78,7 +78,7 @@ says_game F m found old ahead left text n stop.Memory p part h = tt
 
 -- what follows a game refuses the input
 says_behind : (F : Type 0) (m : Mode) (old : Option Bytes) (ahead : Bytes) (left new : Option Bytes) (text more : Bytes) (n : ℕ) (r : Refusal) (s : Stop) → IsGamePart old ahead left text n
-    → Consumes left new more → ((input : Bytes) → cut false input ≡ cut_at text n (lines (ahead ++ more)) → built_answer false input (Some m) ≡ refusing r) → IsRefusal r s
+    → Consumes left new more → ((input : Bytes) → input_cut false input ≡ cut_at text n (lines (ahead ++ more)) → built_answer false input (Some m) ≡ refusing r) → IsRefusal r s
     → Says F (Found (Some m) old new) (Err s)
 says_behind F m old ahead left new text more n r s part c k h =
     says_refused F m old new (text ++ (ahead ++ more)) false r s (stopped_bytes old left new ahead text more part.takes c) (λ x. absurd cc)
@@ -105,7 +105,7 @@ more_behind (c ∷ cs) h = by_lines (lines cs) (lines_some cs)
 
 -- in a mode for games alone a line behind the game is refused
 abbrev pub AloneAt : Mode → Bytes → ℕ → Type 0
-AloneAt m text n = (input : Bytes) (ls : List Bytes) → cut false input ≡ cut_at text n ls → goes_on ls ≡ true → built_answer false input (Some m) ≡ refusing (refused (n + 1) (codes "ExtraLine") [])
+AloneAt m text n = (input : Bytes) (ls : List Bytes) → input_cut false input ≡ cut_at text n ls → goes_on ls ≡ true → built_answer false input (Some m) ≡ refusing (refused (n + 1) (codes "ExtraLine") [])
 
 pub print_alone : (text : Bytes) (n : ℕ) (g : GameModel) → read_text text ≡ Ok g → AloneAt print text n
 print_alone text n g t input ls e h = rw (e, t, h) refl
@@ -131,7 +131,7 @@ not_ended F ahead left new n allowance stop.Memory u h = tt
 
 -- nothing stands behind the game
 pub found_alone : (m : Mode) (old : Option Bytes) (ahead : Bytes) (left : Option Bytes) (rest : Bytes) (new : Option Bytes) (text : Bytes) (n : ℕ) (out : Bytes) → IsGamePart old ahead left text n
-    → ((input : Bytes) → cut true input ≡ cut_at text n ([] ∷ []) → built_answer true input (Some m) ≡ answer out) → Takes ahead left rest new [] → IsEnd ahead rest new → Found (Some m) old new (answer out)
+    → ((input : Bytes) → input_cut true input ≡ cut_at text n ([] ∷ []) → built_answer true input (Some m) ≡ answer out) → Takes ahead left rest new [] → IsEnd ahead rest new → Found (Some m) old new (answer out)
 found_alone m old ahead left rest new text n out part k u e =
     record {
       taken = text ++ [];
@@ -142,10 +142,10 @@ found_alone m old ahead left rest new text n out part k u e =
       early = λ x. absurd cc;
     }
 
-pub print_found : (text : Bytes) (n : ℕ) (g : GameModel) (out : Bytes) → read_text text ≡ Ok g → out ≡ canonical g → (input : Bytes) → cut true input ≡ cut_at text n ([] ∷ []) → built_answer true input (Some print) ≡ answer out
+pub print_found : (text : Bytes) (n : ℕ) (g : GameModel) (out : Bytes) → read_text text ≡ Ok g → out ≡ canonical g → (input : Bytes) → input_cut true input ≡ cut_at text n ([] ∷ []) → built_answer true input (Some print) ≡ answer out
 print_found text n g out t h input e = rw (e, t, h) refl
 
-pub check_found : (text : Bytes) (n : ℕ) (g : GameModel) (out : Bytes) → playable text n ≡ Ok g → out ≡ counts_line g → (input : Bytes) → cut true input ≡ cut_at text n ([] ∷ []) → built_answer true input (Some check) ≡ answer out
+pub check_found : (text : Bytes) (n : ℕ) (g : GameModel) (out : Bytes) → playable text n ≡ Ok g → out ≡ counts_line g → (input : Bytes) → input_cut true input ≡ cut_at text n ([] ∷ []) → built_answer true input (Some check) ≡ answer out
 check_found text n g out t h input e = rw (e, check_cut, t, h) refl
 
 -- ---- the mode `session`

@@ -9,4 +9,5 @@ pub mod RefusalLemmas
 pub mod ReplyLemmas
 pub mod RunLemmas
 pub mod SplitLemmas
+pub mod Splitting
 pub mod WriteLemmas

@@ -10,7 +10,7 @@ use lib.Chars.{codes}
 use Rattle.lab_defs_text.specs.Words.{Bytes, lines}
 use Rattle.lab_defs_text.specs.Games.{GameModel}
 use Rattle.lab_defs_report.specs.Refusals.{Refusal, refused}
-use Rattle.lab_defs_report.specs.Answers.{Answer, refusing, following}
+use Rattle.lab_defs_report.specs.Answers.{Answer, refusing, led_by}
 use Rattle.lab_defs_report.specs.Sessions.{last_answer}
 use Rattle.lab_defs_report.specs.Cuts.{line_limit, commands_limit}
 use Rattle.lab_defs_report.specs.Reports.{replies_from, reply_at, commands_answer, is_too_long, not_built}
@@ -20,34 +20,34 @@ use Rattle.lab_cli.specs.declared.stop.Stop.TheVariants as stop
 use Rattle.lab_cli.specs.Stops.{IsRefusal, Ends, Gives, Says}
 
 -- lines behind lines
-following_both : (xs ys : Bytes) (a : Answer) → following xs (following ys a) ≡ following (xs ++ ys) a
+following_both : (xs ys : Bytes) (a : Answer) → led_by xs (led_by ys a) ≡ led_by (xs ++ ys) a
 following_both xs ys a = ap (λ o. record { out = o; refuses = a.refuses }) (sym (append_assoc xs ys a.out))
 
 -- a command line with lines behind it
 replies_more : (done number : ℕ) (g : GameModel) (l : Bytes) (ms : List Bytes) → ms ≢ [] → replies_from done number g (l ∷ ms)
-    ≡ elim (reply_at (done + number) number g l) [ Ok out ↦ following out (replies_from done (number + 1) g ms) | Err r ↦ refusing r ]
+    ≡ elim (reply_at (done + number) number g l) [ Ok out ↦ led_by out (replies_from done (number + 1) g ms) | Err r ↦ refusing r ]
 replies_more done number g l [] h = absurd (h refl)
 replies_more done number g l (m ∷ ms) h = refl
 
 -- one reply more
-pub replied : (done number : ℕ) (g : GameModel) (all : Answer) (out reply l rest next : Bytes) → all ≡ following out (replies_from done number g (lines rest)) → lines rest ≡ l ∷ lines next
-    → reply_at (done + number) number g l ≡ Ok reply → all ≡ following (out ++ reply) (replies_from done (number + 1) g (lines next))
+pub replied : (done number : ℕ) (g : GameModel) (all : Answer) (out reply l rest next : Bytes) → all ≡ led_by out (replies_from done number g (lines rest)) → lines rest ≡ l ∷ lines next
+    → reply_at (done + number) number g l ≡ Ok reply → all ≡ led_by (out ++ reply) (replies_from done (number + 1) g (lines next))
 replied done number g all out reply l rest next e k r =
-    e ∙ ap (λ ls. following out (replies_from done number g ls)) k ∙ ap (following out) (replies_more done number g l (lines next) (lines_some next) ∙ (rw r refl))
+    e ∙ ap (λ ls. led_by out (replies_from done number g ls)) k ∙ ap (led_by out) (replies_more done number g l (lines next) (lines_some next) ∙ (rw r refl))
     ∙ following_both out reply (replies_from done (number + 1) g (lines next))
 
 -- a refusal is written behind what was written before it
-says_ended : (F : Type 0) (all : Answer) (out : Bytes) (r : Refusal) (s : Stop) → all ≡ following out (refusing r) → Ends out r s → Says F (λ a. a ≡ all) (Err s)
+says_ended : (F : Type 0) (all : Answer) (out : Bytes) (r : Refusal) (s : Stop) → all ≡ led_by out (refusing r) → Ends out r s → Says F (λ a. a ≡ all) (Err s)
 says_ended F all out r (stop.Refused o) e h = ap (λ x. record { out = x; refuses = true }) h ∙ sym e
 says_ended F all out r stop.ReadFault e h = absurd h
 says_ended F all out r stop.Memory e h = tt
 
 -- a command line that is refused
-pub says_refusal : (done number : ℕ) (g : GameModel) (reply : Bytes) (all : Answer) (out l rest next : Bytes) (s t : Stop) → all ≡ following out (replies_from done number g (lines rest)) → lines rest ≡ l ∷ lines next
+pub says_refusal : (done number : ℕ) (g : GameModel) (reply : Bytes) (all : Answer) (out l rest next : Bytes) (s t : Stop) → all ≡ led_by out (replies_from done number g (lines rest)) → lines rest ≡ l ∷ lines next
     → Gives {X = Unit {0}} (λ _. reply) (reply_at (done + number) number g l) (Err s) → ((r : Refusal) → IsRefusal r s → Ends out r t) → (s ≡ stop.Memory → t ≡ stop.Memory) → Says ⊥ (λ a. a ≡ all) (Err t)
 says_refusal done number g reply all out l rest next (stop.Refused o) t e k h f m =
     says_ended ⊥ all out h.0 t
-    (e ∙ ap (λ ls. following out (replies_from done number g ls)) k ∙ ap (following out) (replies_more done number g l (lines next) (lines_some next) ∙ (rw h.1 refl))) (f h.0 h.2)
+    (e ∙ ap (λ ls. led_by out (replies_from done number g ls)) k ∙ ap (led_by out) (replies_more done number g l (lines next) (lines_some next) ∙ (rw h.1 refl))) (f h.0 h.2)
 says_refusal done number g reply all out l rest next stop.ReadFault t e k h f m = absurd h
 says_refusal done number g reply all out l rest next stop.Memory t e k h f m = subst (λ x. Says ⊥ (λ a. a ≡ all) (Err x)) (sym (m refl)) tt
 
@@ -56,13 +56,13 @@ pub says_same : (F : Type 0) (a b : Answer) (r : Result (Vec ℕ) Stop) → a �
 says_same F a b r e h = subst (λ y. Says F (λ x. x ≡ y) r) e h
 
 -- the last piece
-pub last_same : (done number : ℕ) (g : GameModel) (all : Answer) (out l rest : Bytes) → all ≡ following out (replies_from done number g (lines rest)) → lines rest ≡ l ∷ []
-    → following out (last_answer true (done + number) l) ≡ all
-last_same done number g all out l rest e k = sym (e ∙ ap (λ ls. following out (replies_from done number g ls)) k)
+pub last_same : (done number : ℕ) (g : GameModel) (all : Answer) (out l rest : Bytes) → all ≡ led_by out (replies_from done number g (lines rest)) → lines rest ≡ l ∷ []
+    → led_by out (last_answer true (done + number) l) ≡ all
+last_same done number g all out l rest e k = sym (e ∙ ap (λ ls. led_by out (replies_from done number g ls)) k)
 
 -- what is said where the input ends with a line that no line feed ends
-pub says_last : (number : ℕ) (out l : Bytes) (r : Refusal) (s : Stop) → last_answer true number l ≡ refusing r → Ends out r s → Says ⊥ (λ a. a ≡ following out (last_answer true number l)) (Err s)
-says_last number out l r s e h = says_ended ⊥ (following out (last_answer true number l)) out r s (ap (following out) e) h
+pub says_last : (number : ℕ) (out l : Bytes) (r : Refusal) (s : Stop) → last_answer true number l ≡ refusing r → Ends out r s → Says ⊥ (λ a. a ≡ led_by out (last_answer true number l)) (Err s)
+says_last number out l r s e h = says_ended ⊥ (led_by out (last_answer true number l)) out r s (ap (led_by out) e) h
 
 -- ---- all commands
 

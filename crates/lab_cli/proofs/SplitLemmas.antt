@@ -5,6 +5,7 @@ use Rattle.std.proofs.lemmas.Nat.{mul-le}
 use Rattle.std.proofs.lemmas.Int.{ints, unsigned_abs-mul}
 use Rattle.std.proofs.lemmas.List.{get_or-map}
 use Rattle.std.proofs.lemmas.Option.{get_or_from_slice_get}
+use Rattle.std.proofs.Math.Nat.{one-le-pow}
 use Rattle.std.proofs.Math.Seq.{take-suc, take-length}
 use Rattle.lab_math.specs.Sums.{total}
 use Rattle.lab_math.proofs.IntegerSums.{total-append}
@@ -23,12 +24,12 @@ use Rattle.lab_defs_game.proofs.RecallLemmas.{recall_law}
 use Rattle.lab_defs_game.proofs.UnfoldLaws.{accepted_law}
 use Rattle.lab_defs_game.proofs.HistoryCounts.{history_count_law}
 use Rattle.lab_defs_value.specs.Expectation.{expectation_units, expectation_of_uniform}
-use Rattle.lab_defs_value.specs.Splits.{split_along, splits_along, split_once, part_of, share_of}
-use Rattle.lab_defs_value.proofs.Splitting.{Splits, uniform_sum, inner_pays, own_below, split_push, split_found, split_first, split_most}
-use Rattle.lab_defs_report.specs.Headline.{IsAccepted}
-use Rattle.lab_laws.proofs.SizeChance.{chance_le, some_scale}
-use Rattle.lab_laws.proofs.SizeRanges.{some_grid, some_power}
-use Rattle.lab_laws.proofs.SizeRows.{whole_most}
+use Rattle.lab_cli.specs.Splits.{split_along, splits_along, split_once, share_of}
+use Rattle.lab_defs_value.specs.Rounding.{even_part}
+use Rattle.lab_cli.proofs.Splitting.{Splits, uniform_sum, inner_pays, own_below, split_push, split_found, split_first, split_most}
+use Rattle.lab_defs_game.specs.Accepted.{IsAccepted}
+use Rattle.lab_defs_game.proofs.ChanceSizes.{chance_le, some_scale}
+use Rattle.lab_defs_game.proofs.GridSizes.{some_grid}
 use Rattle.lab_world.specs.declared.place.Place.{Place}
 use Rattle.lab_world.specs.Games.{game_model}
 use Rattle.lab_world.specs.Models.{place_model}
@@ -56,10 +57,10 @@ pub record Grids (g : GameModel) : Type 0 where
 pub grids_of : (g : GameModel) → IsAccepted g → Grids g
 grids_of g ok =
     let first : splits_along g [] ≡ g.grid ^ most_decisions g 1 * g.grid ^ most_decisions g 2 = ap (λ x. x * split_along g 2 []) (split_first g 1) ∙ ap (λ x. g.grid ^ most_decisions g 1 * x) (split_first g 2) in
-    let whole : max 1 (top_payoff g) * scale g * (g.grid ^ most_decisions g 1 * g.grid ^ most_decisions g 2) ≤ 2 ^ 64 = whole_most g ok in
+    let whole : max 1 (top_payoff g) * scale g * (g.grid ^ most_decisions g 1 * g.grid ^ most_decisions g 2) ≤ 2 ^ 64 = ((accepted_law g).0 ok.unfolds).2 in
     let s = some_scale g ok.good in
-    let d1 = some_power g.grid (most_decisions g 1) (some_grid g ok.good) in
-    let d2 = some_power g.grid (most_decisions g 2) (some_grid g ok.good) in
+    let d1 = one-le-pow (most_decisions g 1) g.grid (some_grid g ok.good) in
+    let d2 = one-le-pow (most_decisions g 2) g.grid (some_grid g ok.good) in
     sizes g first (max 1 (top_payoff g)) (scale g) (g.grid ^ most_decisions g 1) (g.grid ^ most_decisions g 2) (omega arith) refl s refl d1 refl d2 refl whole
   where
     sizes : (g : GameModel) → splits_along g [] ≡ g.grid ^ most_decisions g 1 * g.grid ^ most_decisions g 2 → (u k d e : ℕ) → 1 ≤ u → u ≡ max 1 (top_payoff g) → 0 < k → k ≡ scale g
@@ -107,7 +108,7 @@ twice g ok i j l b =
     times grid n a x y z s = record {
       part = s.part * z;
       whole = ap (λ k. k * z) s.whole ∙ turned s.part (cond (nat_le 2 n) grid 1) z;
-      left = ap (λ k. k * z) s.left ∙ turned s.part (cond (nat_le 2 n) (part_of grid n a) 1) z;
+      left = ap (λ k. k * z) s.left ∙ turned s.part (cond (nat_le 2 n) (even_part grid n a) 1) z;
     }
       where
         turned : (p q r : ℕ) → p * q * r ≡ p * r * q
@@ -152,7 +153,7 @@ shared_of g ok h i =
     let s2 = split_most g 2 alike.1 (length h) h (le_of_eq refl) i in
     let s : splits_along g h ≤ g.grid ^ most_decisions g 1 * g.grid ^ most_decisions g 2 = mul-le-mul s1 s2 in
     let power : g.grid ^ most_decisions g 1 * g.grid ^ most_decisions g 2 ≤ 2 ^ 64 = subst (λ x. x ≤ 2 ^ 64) (pow-add g.grid (most_decisions g 1) (most_decisions g 2)) grids.power_small in
-    let whole : max 1 (top_payoff g) * scale g * (g.grid ^ most_decisions g 1 * g.grid ^ most_decisions g 2) ≤ 2 ^ 64 = whole_most g ok in
+    let whole : max 1 (top_payoff g) * scale g * (g.grid ^ most_decisions g 1 * g.grid ^ most_decisions g 2) ≤ 2 ^ 64 = ((accepted_law g).0 ok.unfolds).2 in
     record {
       chance = le_trans c grids.scale_small;
       splits = le_trans s power;
@@ -255,7 +256,7 @@ first_is p i x l e n =
     read_first (game_model p.game) i p.histories.items x items (omega (arith, l, items_length p))
     (ap (λ (k : Item). k.parent) (get_or_from_slice_get p.histories.items i x x e) ∙ n)
 
--- weights behind a step
+-- weights after a step
 pub weight_behind : (p : Playable) (i : ℕ) (x y : Item) (parent : HistoryId) (step : ItemStep) (told : List ℕ) → i < length (histories (game_model p.game))
     → slice_get p.histories.items i ≡ Some x → x.parent ≡ Some parent → x.step ≡ Some step → slice_get p.histories.items parent.0 ≡ Some y
     → told ≡ map (splits_along (game_model p.game)) (take i (histories (game_model p.game)))

@@ -5,7 +5,7 @@ use Rattle.lab_io.specs.Reading.{Takes}
 use Rattle.lab_defs_text.specs.Words.{Bytes}
 use Rattle.lab_defs_report.specs.Refusals.{Refusal, refused, refusal_line}
 use Rattle.lab_defs_report.specs.Cuts.{game_limit, commands_limit, cut_at, cut_refused}
-use Rattle.lab_defs_report.specs.Modes.{cut}
+use Rattle.lab_defs_report.specs.Modes.{input_cut}
 use Rattle.lab_defs_report.specs.Reports.{not_built}
 use lib.Chars.{codes}
 use Rattle.lab_cli.specs.declared.stop.Stop.{Stop}
@@ -14,7 +14,7 @@ use Rattle.lab_cli.specs.declared.stop.Stop.TheVariants.{Refused, ReadFault, Mem
 -- the bytes that came next are the lines of a game, the last of which is the first that is `done`
 pub record IsGamePart (old : Option Bytes) (ahead : Bytes) (new : Option Bytes) (text : Bytes) (done : ℕ) : Type 0 where
   pub takes : Takes [] old ahead new text
-  pub cuts : cut false text ≡ cut_at text done ([] ∷ [])
+  pub cuts : input_cut false text ≡ cut_at text done ([] ∷ [])
   pub short : length text ≤ game_limit
   pub few : done ≤ length text
 
@@ -25,7 +25,7 @@ pub record IsCutOff (old new : Option Bytes) (out : Bytes) : Type 0 where
   pub ended : Bool
   pub at_end : IsTrue ended → IsAtEnd new
   pub refusal : Refusal
-  pub cuts : cut ended taken ≡ cut_refused refusal
+  pub cuts : input_cut ended taken ≡ cut_refused refusal
   pub tells : out ≡ refusal_line refusal
 
 -- why there are no lines of a game; where the source failed, Fault holds

@@ -6,6 +6,7 @@ pub mod ModeNames
 pub mod EvenSplits
 pub mod PlainLines
 pub mod Runs
+pub mod Splits
 pub mod Statuses
 pub mod Stops
 pub mod Writes

@@ -4,7 +4,7 @@ ghost use Rattle.std.specs.List.{list_any};
 ghost use Rattle.lab_defs_text.specs.Words.{lines};
 ghost use Rattle.lab_defs_text.specs.Lines.{joined};
 ghost use Rattle.lab_defs_report.specs.States.{uniform_reply};
-ghost use Rattle.lab_defs_report.specs.Answers.{following};
+ghost use Rattle.lab_defs_report.specs.Answers.{led_by};
 ghost use Rattle.lab_defs_report.specs.Sessions.{last_answer};
 ghost use Rattle.lab_defs_report.specs.Cuts.{line_limit, commands_limit};
 ghost use Rattle.lab_defs_report.specs.Reports.{commands_answer, replies_from, reply_at, reply_of};
@@ -68,7 +68,7 @@ fn replies(alloc: Global, done: u32, uniform: &[u8], behind: &[u8]) -> Result<Ve
 
 // What was written, where the input ends with this line, which no line feed ends.
 fn last(alloc: Global, written: Vec<u8>, number: u32, line: &[u8]) -> Result<Vec<u8>, Stop>
-    ensures { Says ⊥ (λ a. a ≡ following written.items (last_answer true number line.now)) result }
+    ensures { Says ⊥ (λ a. a ≡ led_by written.items (last_answer true number line.now)) result }
 {
     if line.is_empty() {
         Ok(written)

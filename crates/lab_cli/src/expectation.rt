@@ -22,8 +22,9 @@ ghost use Rattle.lab_defs_text.specs.Fractions.{lowest_num, lowest_den};
 ghost use Rattle.lab_defs_text.specs.Words.{Bytes};
 ghost use Rattle.lab_defs_game.specs.Histories.{histories as all_histories};
 ghost use Rattle.lab_defs_value.specs.Expectation.{expectation_of_uniform, expectation_units};
-ghost use Rattle.lab_defs_value.specs.Splits.{splits_along, split_once, part_of, share_of};
-ghost use Rattle.lab_defs_report.specs.Headline.{IsAccepted};
+ghost use Rattle.lab_cli.specs.Splits.{splits_along, split_once, share_of};
+ghost use Rattle.lab_defs_value.specs.Rounding.{even_part};
+ghost use Rattle.lab_defs_game.specs.Accepted.{IsAccepted};
 ghost use Rattle.lab_world.specs.Games.{game_model};
 ghost use Rattle.lab_world.specs.Models.{place_model};
 ghost use Rattle.lab_unfold.specs.Values.{step_model};
@@ -115,7 +116,7 @@ fn split(grid: u32, actions: usize, action: u32, left: u128) -> u128
 // The weight of an action where a grid is split evenly: the units that are left go to the first actions.
 fn part(grid: usize, actions: usize, action: usize) -> usize
     requires some { 2 ≤ actions }
-    ensures part { result ≡ part_of grid actions action }
+    ensures part { result ≡ even_part grid actions action }
     ensures within { result ≤ grid }
 {
     grid / actions + (action < grid % actions) as usize

@@ -3,7 +3,7 @@ ghost use Rattle.std.specs.Prelude.{◌≡◌, ◌<◌, ◌^◌, length, None, I
 ghost use Rattle.lab_defs_game.specs.Unfolding.{unfold_fault};
 ghost use Rattle.lab_defs_game.specs.Recall.{recall_fault};
 ghost use Rattle.lab_defs_report.specs.GameModes.{accepted_at, playable as playable_game};
-ghost use Rattle.lab_defs_report.specs.Headline.{IsAccepted};
+ghost use Rattle.lab_defs_game.specs.Accepted.{IsAccepted};
 ghost use Rattle.lab_world.specs.Games.{game_model};
 ghost use Rattle.lab_unfold.specs.Values.{unfolded};
 ghost use Rattle.lab_seen.specs.SetFirsts.{AreSetFirsts};

@@ -3,7 +3,7 @@ use Rattle.std.proofs.Common.{◌≡◌, ℕ, zero, suc, ◌+◌, ◌*◌, ◌/�
 use Rattle.std.specs.Prelude.{◌&&◌, ◌==◌, nat_lt, nat_le, if◌then◌else◌, slice_index}
 use Rattle.std.specs.List.{list_all}
 use Rattle.std.specs.Ordering.{is_eq}
-use Rattle.std.proofs.lemmas.List.{get_or-map}
+use Rattle.std.proofs.lemmas.List.{get_or-map, length-map}
 use Rattle.std.proofs.Math.Nat.{mul-div_cancel'}
 use Rattle.std.proofs.lemmas.Bool.{and_parts, eqb-true, eq-eqb, ltb-true, cases_lt}
 use Rattle.std.proofs.lemmas.Cmp.{tied_itself}
@@ -15,12 +15,12 @@ use Rattle.lab_defs_text.specs.Words.{Bytes, are_names, is_name, apart_after}
 use Rattle.lab_defs_text.specs.Games.{GameModel, Place, World, a_world, an_end, Outcome}
 use Rattle.lab_defs_text.specs.Texts.{place_at, is_world, game_ok, place_ok, row_ok, is_within}
 use Rattle.lab_defs_game.specs.Keys.{count}
-use Rattle.lab_defs_game.specs.Histories.{History, Step, actions_at, row_of, place_of, reached, outcome_of, steps_of, longer, histories, inner_histories}
+use Rattle.lab_defs_game.specs.Histories.{History, Step, actions_at, row_of, place_of, reached, outcome_of, steps_of, longer, histories, inner_histories, action_names}
 use Rattle.lab_defs_game.specs.Sets.{seen, set_cmp, sets, set_number, first_actions, set_actions, decisions_from, most_decisions}
-use Rattle.lab_defs_game.specs.Forms.{Taken, path_along, game_actions, decides, deciding}
+use Rattle.lab_defs_game.specs.Forms.{FormSet, game_set, game_sets, game_actions, parent_at, decides, deciding}
+use Rattle.lab_defs_game.specs.Paths.{SetAction, path_along, parent}
 use Rattle.lab_defs_game.specs.Chance.{row_total, totals_at, chance_unit}
 use Rattle.lab_defs_game.specs.Unfolding.{UnfoldFault, too_many_histories, horizon_passed, standing, first_too_many, first_world, size_fault, horizon_fault, unfold_fault}
-use Rattle.lab_defs_game.specs.Recall.{names_at}
 use Rattle.lab_defs_game.specs.Laws.{AlikeNames, IsStep}
 use Rattle.lab_defs_game.proofs.HistoryCounts.{level, standing_is}
 use Rattle.lab_defs_game.proofs.NumberLemmas.{number_below, at_number}
@@ -34,7 +34,7 @@ use Rattle.lab_defs_game.proofs.TreeLaws.{along_law}
 -- ---- actions of sets
 
 -- how many names there are is how many actions there are
-names_count : (seat : ℕ) (p : Place) → length (names_at seat p) ≡ actions_at seat p
+names_count : (seat : ℕ) (p : Place) → length (action_names seat p) ≡ actions_at seat p
 names_count seat (a_world w) = at (seat == 1)
   where
     at : (b : Bool) → length (cond b w.one w.two) ≡ cond b (length w.one) (length w.two)
@@ -61,13 +61,31 @@ first_actions_are g seat h (k ∷ hs) i same = at (is_eq (set_cmp (seen g seat k
     at false e (inl q) rest = absurd (not_both (ap (λ l. is_eq (set_cmp (seen g seat l) (seen g seat h))) q ∙ ap is_eq (tied_itself set_total (seen g seat h))) e)
     at false e (inr j) rest = rest j
 
+-- there are as many numbers of actions as sets
+pub game_actions_length : (g : GameModel) (seat : ℕ) → length (game_actions g seat) ≡ length (sets g seat)
+game_actions_length g seat = length-map (game_sets g seat) (λ s. s.actions) ∙ length-map (sets g seat) (game_set g seat)
+
+-- that of a set is how many actions there are
+pub game_actions_at : (g : GameModel) (seat J : ℕ) → J < length (sets g seat) → slice_index (game_actions g seat) J ≡ set_actions g seat (get_or (sets g seat) J [])
+game_actions_at g seat J l =
+    let none : FormSet = record { parent = None; actions = 0 } in
+    get_or-map (λ (s : FormSet). s.actions) (game_sets g seat) J none 0 (subst (λ n. J < n) (sym (length-map (sets g seat) (game_set g seat))) l)
+    ∙ ap (λ (s : FormSet). s.actions) (get_or-map (game_set g seat) (sets g seat) J [] none l)
+
+-- its parent is what it follows
+pub game_parents_at : (g : GameModel) (seat J : ℕ) → J < length (sets g seat) → parent_at (game_sets g seat) J ≡ parent g seat (get_or (sets g seat) J [])
+game_parents_at g seat J l =
+    let none : FormSet = record { parent = None; actions = 0 } in
+    get_or-map (λ (s : FormSet). s.parent) (game_sets g seat) J none None (subst (λ n. J < n) (sym (length-map (sets g seat) (game_set g seat))) l)
+    ∙ ap (λ (s : FormSet). s.parent) (get_or-map (game_set g seat) (sets g seat) J [] none l)
+
 -- the actions of the set with a history's number are those at the history
 pub actions_of_set : (g : GameModel) (seat : ℕ) → AlikeNames g seat → (h : History) → In h (inner_histories g)
     → slice_index (game_actions g seat) (set_number g seat (seen g seat h)) ≡ actions_at seat (place_of g h)
 actions_of_set g seat a h i =
     let s = seen g seat h in
     let j = set_has g seat h i in
-    get_or-map (set_actions g seat) (sets g seat) (set_number g seat s) [] 0 (number_below set_cmp set_total (sets g seat) s (sets_ascending g seat) j)
+    game_actions_at g seat (set_number g seat s) (number_below set_cmp set_total (sets g seat) s (sets_ascending g seat) j)
     ∙ ap (set_actions g seat) (at_number set_cmp set_total (sets g seat) s [] (sets_ascending g seat) j)
     ∙ first_actions_are g seat h (inner_histories g) i (λ k j e. same_count g seat a k h j i e)
 
@@ -100,7 +118,7 @@ deciding_are g seat a (suc n) h le i = at (history_cases g h i) (λ k l j. decid
     at (inl e) rest = ap (λ k. deciding (game_actions g seat) (path_along g seat k)) e ∙ sym (ap (decisions_from g seat g.root) e)
     at (inr r) rest =
         let k = r.before in
-        let t : Taken = record { set = set_number g seat (seen g seat k); action = if seat == 1 then r.step.action1 else r.step.action2 } in
+        let t : SetAction = record { set = set_number g seat (seen g seat k); action = if seat == 1 then r.step.action1 else r.step.action2 } in
         let len : length h ≡ suc (length k) = ap length r.made ∙ length_push k r.step in
         ap (λ x. deciding (game_actions g seat) (path_along g seat x)) r.made
         ∙ ap (deciding (game_actions g seat)) (along_law g seat k r.step).0

@@ -1,5 +1,5 @@
 -- Histories, and what is seen along them.
-use Rattle.std.proofs.Common.{◌≡◌, ℕ, zero, suc, ◌<◌, List, [], ◌∷◌, ◌++◌, true, map, flat_map, Some, refl, sym, ap, ◌∙◌, subst, inl, inr, ◌⊎◌}
+use Rattle.std.proofs.Common.{◌≡◌, ℕ, zero, suc, ◌<◌, List, [], ◌∷◌, ◌++◌, true, map, flat_map, Option, Some, None, refl, sym, ap, ◌∙◌, subst, inl, inr, ◌⊎◌}
 use Rattle.std.proofs.lemmas.List.{append_assoc, append-nil}
 use Rattle.std.specs.declared.cmp.Ordering.TheVariants.{Less}
 use Rattle.lab_math.proofs.Members.{In, in_append_left, in_append_right, in_append_cases, in_filter, in_from_filter, in_map, in_from_map, in_from_flat_map}
@@ -8,8 +8,8 @@ use Rattle.lab_defs_text.specs.Texts.{is_world}
 use Rattle.lab_defs_game.specs.Keys.{list_cmp}
 use Rattle.lab_defs_game.specs.Histories.{History, Step, place_of, reached, outcome_of, steps_of, longer, with_longer, histories, inner_histories}
 use Rattle.lab_defs_game.specs.Sets.{Item, item_of, seen, seen_from, public_from, public_list, publics, set_cmp, sets, set_number}
-use Rattle.lab_defs_game.specs.Forms.{taken_from}
-use Rattle.lab_defs_game.specs.Nodes.{nodes, last_from, parent}
+use Rattle.lab_defs_game.specs.Paths.{SetAction, last_after, last_step, taken_from, parent}
+use Rattle.lab_defs_game.specs.Nodes.{nodes}
 use Rattle.lab_defs_game.proofs.KeyLemmas.{Ascending, in_order_ascending, in_order_has, in_order_from}
 use Rattle.lab_defs_game.proofs.NumberLemmas.{number_lt}
 use Rattle.lab_defs_game.proofs.Orders.{list_total, list_exact, set_total, set_exact, before_longer}
@@ -132,19 +132,10 @@ set_cases g seat s i =
     let r = set_from g seat s i in
     subst (λ t. (t ≡ []) ⊎ Follows g seat t) r.2 (seen_cases g seat r.0 (inner_from g r.0 r.1))
 
--- what a list with something behind it ends with does not depend on how it begins
-last_skip : (number : List Item → ℕ) (done xs : List Item) (y x : Item) → last_from number done (y ∷ (xs ++ x ∷ [])) ≡ last_from number (done ++ y ∷ []) (xs ++ x ∷ [])
-last_skip number done [] y x = refl
-last_skip number done (z ∷ xs) y x = refl
-
--- the set before the last item, and the action there
-pub last_push : (number : List Item → ℕ) (done xs : List Item) (x : Item)
-    → last_from number done (xs ++ x ∷ []) ≡ Some (record { set = number (done ++ xs); action = x.action })
-last_push number done [] x = ap (λ d. Some (record { set = number d; action = x.action })) (sym (append-nil done))
-last_push number done (y ∷ xs) x =
-    last_skip number done xs y x
-    ∙ last_push number (done ++ y ∷ []) xs x
-    ∙ ap (λ d. Some (record { set = number d; action = x.action })) (append_assoc done (y ∷ []) xs)
+-- the last step of a path with one more step is that step
+pub last_after_push : (before : Option SetAction) (p : List SetAction) (t : SetAction) → last_after before (p ++ t ∷ []) ≡ Some t
+last_after_push before [] t = refl
+last_after_push before (u ∷ p) t = last_after_push (Some u) p t
 
 -- with one more item one more set and action are taken
 pub taken_push : (number : List Item → ℕ) (done xs : List Item) (x : Item)
@@ -154,6 +145,11 @@ taken_push number done (y ∷ xs) x =
     ap (λ t. record { set = number done; action = y.action } ∷ t)
     (taken_push number (done ++ y ∷ []) xs x
     ∙ ap (λ d. taken_from number (done ++ y ∷ []) xs ++ record { set = number d; action = x.action } ∷ []) (append_assoc done (y ∷ []) xs))
+
+-- the set before the last item, and the action there
+pub last_push : (number : List Item → ℕ) (done xs : List Item) (x : Item)
+    → last_step (taken_from number done (xs ++ x ∷ [])) ≡ Some (record { set = number (done ++ xs); action = x.action })
+last_push number done xs x = ap last_step (taken_push number done xs x) ∙ last_after_push None (taken_from number done xs) (record { set = number (done ++ xs); action = x.action })
 
 -- the parent of a set is the set that it follows
 pub parent_is : (g : GameModel) (seat : ℕ) (s : List Item) → (f : Follows g seat s)

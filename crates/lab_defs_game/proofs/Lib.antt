@@ -13,6 +13,11 @@ pub mod RecallLemmas
 pub mod Suffixes
 pub mod FormLemmas
 pub mod UnfoldLaws
+pub mod GridSizes
 pub mod Groups
 pub mod PathItems
 pub mod PairLaws
+pub mod ChanceSizes
+pub mod SetNumbers
+pub mod RootSets
+pub mod RowsThrough

@@ -1,5 +1,5 @@
 -- The number of a key, and keys that pass a test which holds up to a place.
-use Rattle.std.proofs.Common.{◌≡◌, ℕ, zero, suc, ◌+◌, ◌<◌, ◌≤◌, List, [], ◌∷◌, Bool, true, false, cond, ltb, ◌||◌, length, get_or, refl, sym, ap, ◌∙◌, subst, arith, inl, inr, ◌⊎◌, ◌↔◌}
+use Rattle.std.proofs.Common.{◌≡◌, ℕ, zero, suc, ◌+◌, ◌<◌, ◌≤◌, List, [], ◌∷◌, Bool, true, false, cond, ltb, ◌||◌, length, get_or, map, filter, refl, sym, ap, ◌∙◌, subst, arith, inl, inr, ◌⊎◌, ◌↔◌}
 use Rattle.std.specs.Ordering.{is_lt, ordering_reverse}
 use Rattle.std.specs.declared.cmp.Ordering.{Ordering}
 use Rattle.std.specs.declared.cmp.Ordering.TheVariants.{Less, Equal, Greater}
@@ -198,3 +198,17 @@ module _ {K : Type 0} (R : K → K → Ordering) where
   -- one number, one key
   pub number_same : IsTotalOrder R → (xs : List K) (j k : K) → Ascending R xs → In j xs → In k xs → number_of R xs j ≡ number_of R xs k → j ≡ k
   number_same o xs j k a hj hk e = sym (at_number o xs j j a hj) ∙ ap (λ n. get_or xs n j) e ∙ at_number o xs k j a hk
+
+-- how many are kept
+pub length-filter : {K : Type 0} (p : K → Bool) (xs : List K) → length (filter p xs) ≡ count p xs
+length-filter p [] = refl
+length-filter p (x ∷ xs) = at (is_true_or (p x)) (length-filter p xs)
+  where
+    at : (p x ≡ true) ⊎ (p x ≡ false) → length (filter p xs) ≡ count p xs → length (filter p (x ∷ xs)) ≡ count p (x ∷ xs)
+    at (inl e) r = ap (λ b. length (cond b (x ∷ filter p xs) (filter p xs))) e ∙ ap suc r ∙ sym (count_at_true p x xs e)
+    at (inr e) r = ap (λ b. length (cond b (x ∷ filter p xs) (filter p xs))) e ∙ r ∙ sym (count_at_false p x xs e)
+
+-- the same values make the same list
+pub map_same : {X Y : Type 0} (f h : X → Y) → ((x : X) → f x ≡ h x) → (xs : List X) → map f xs ≡ map h xs
+map_same f h e [] = refl
+map_same f h e (x ∷ xs) = ap (λ y. y ∷ map f xs) (e x) ∙ ap (λ ys. h x ∷ ys) (map_same f h e xs)

@@ -4,8 +4,8 @@ use Rattle.std.specs.Prelude.{◌||◌, not}
 use Rattle.std.specs.List.{list_any}
 use Rattle.std.proofs.lemmas.Bool.{and_parts, or_cases, or_left, or_right, false_from_ne_true, cases_lt}
 use Rattle.lab_defs_text.specs.Games.{GameModel, Recall, by_acts, by_seen}
-use Rattle.lab_defs_game.specs.Histories.{History, histories, place_of}
-use Rattle.lab_defs_game.specs.Recall.{RecallFault, legal_differs, forgotten, names_at, same_names, one_set, differ, confused, place_of_first, first_pair, legal_pair, confused_pair, fault_of, first_fault, recall_fault}
+use Rattle.lab_defs_game.specs.Histories.{History, histories, place_of, action_names}
+use Rattle.lab_defs_game.specs.Recall.{RecallFault, legal_differs, forgotten, same_names, one_set, differ, confused, place_of_first, first_pair, legal_pair, confused_pair, fault_of, first_fault, recall_fault}
 use Rattle.lab_defs_game.specs.Laws.{AlikeNames, Remembers, IsFirstPair, LegalDiffersLaw, ForgottenLaw}
 use Rattle.lab_defs_game.proofs.NumberLemmas.{is_true_or}
 use Rattle.lab_defs_game.proofs.RecallLemmas.{not_both, alike_from, alike_none, remembers_from, remembers_none}
@@ -283,7 +283,7 @@ forgotten_answer None None None None s m n e = absurd (no_kind (forgotten s m n)
 
 -- what differs is of one set
 differ_one : (g : GameModel) (seat : ℕ) (k h : History) → differ g seat k h ≡ true → one_set g seat k h ≡ true
-differ_one g seat k h e = (and_parts (one_set g seat k h) (not (same_names (names_at seat (place_of g k)) (names_at seat (place_of g h)))) e).0
+differ_one g seat k h e = (and_parts (one_set g seat k h) (not (same_names (action_names seat (place_of g k)) (action_names seat (place_of g h)))) e).0
 
 -- a pair of names is the first pair
 legal_is : (g : GameModel) (seat m n : ℕ) → (legal_pair g seat ≡ Some (m, n)) ↔ IsFirstPair (one_set g seat) (differ g seat) (histories g) m n

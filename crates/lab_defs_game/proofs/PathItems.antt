@@ -7,10 +7,10 @@ use Rattle.lab_math.proofs.Members.{In, in_get_or}
 use Rattle.lab_defs_text.specs.Games.{GameModel}
 use Rattle.lab_defs_game.specs.Keys.{count, number_of}
 use Rattle.lab_defs_game.specs.Sets.{Item, seen, set_cmp, sets, set_number}
-use Rattle.lab_defs_game.specs.Forms.{Taken}
-use Rattle.lab_defs_game.specs.Nodes.{path, parent, is_taken, Follow, following, path_place, path_item, follow_at}
+use Rattle.lab_defs_game.specs.Paths.{SetAction, parent, is_taken}
+use Rattle.lab_defs_game.specs.Nodes.{path, Follow, following, path_place, path_item, follow_at}
 use Rattle.lab_defs_game.specs.Laws.{FollowLaw, FirstItemLaw}
-use Rattle.lab_defs_game.proofs.NumberLemmas.{number_at, at_number, number_below, passes_at, before_holds, count_cong, count_at_true, count_at_false, is_true_or, count_none}
+use Rattle.lab_defs_game.proofs.NumberLemmas.{length-filter, number_at, at_number, number_below, passes_at, before_holds, count_cong, count_at_true, count_at_false, is_true_or, count_none}
 use Rattle.lab_defs_game.proofs.Orders.{set_total}
 use Rattle.lab_defs_game.proofs.GameLemmas.{Follows, set_cases, sets_ascending, parent_is}
 use Rattle.lab_defs_game.proofs.Ways.{path_ascending, path_has, path_parent, not_before_root}
@@ -38,7 +38,7 @@ count_before p (x ∷ xs) (suc i) d l e = at (is_true_or (p x)) (count_before p 
     at (inr f) r = let a = count_at_false p x (take i xs) f in let b = count_at_false p x xs f in omega (arith, a, b, r)
 
 -- what was taken is what was taken
-taken_itself : (t : Taken) → is_taken t (Some t) ≡ true
+taken_itself : (t : SetAction) → is_taken t (Some t) ≡ true
 taken_itself t = and_from (t.set == t.set) (t.action == t.action) (eq-eqb t.set t.set refl) (eq-eqb t.action t.action refl)
 
 -- the set at a place of a path
@@ -59,13 +59,15 @@ Said g seat node i f =
     (f.before < i) × (parent g seat (set_at g seat node i) ≡ Some (record { set = (path_item g seat node f.before).set; action = f.action })) × (f.place < f.total)
 
 -- what holds of a set that follows an earlier one
-follow_said : (g : GameModel) (seat : ℕ) (node : List ℕ) (i : ℕ) (t : Taken) → i < length (path g seat node) → parent g seat (set_at g seat node i) ≡ Some t
+follow_said : (g : GameModel) (seat : ℕ) (node : List ℕ) (i : ℕ) (t : SetAction) → i < length (path g seat node) → parent g seat (set_at g seat node i) ≡ Some t
     → (u : List Item) → In u (path g seat node) → t.set ≡ set_number g seat u → number_of set_cmp (path g seat node) u < i
     → Said g seat node i (record { before = path_place g seat node t.set; action = t.action; place = following g seat t (take i (path g seat node)); total = following g seat t (path g seat node) })
 follow_said g seat node i t l e u j n less = (
   subst (λ m. m < i) (sym before) less,
   e ∙ ap (λ m. Some (record { set = m; action = t.action })) (n ∙ ap (set_number g seat) (sym there)),
-  count_before (λ s. is_taken t (parent g seat s)) (path g seat node) i [] l (ap (is_taken t) e ∙ taken_itself t),
+  (let counted = λ (us : List (List Item)). length-filter (λ s. is_taken t (parent g seat s)) us in
+      let less = count_before (λ s. is_taken t (parent g seat s)) (path g seat node) i [] l (ap (is_taken t) e ∙ taken_itself t) in
+      subst (λ n. n < following g seat t (path g seat node)) (sym (counted (take i (path g seat node)))) (subst (λ n. count (λ s. is_taken t (parent g seat s)) (take i (path g seat node)) < n) (sym (counted (path g seat node))) less)),
 )
   where
     before : path_place g seat node t.set ≡ number_of set_cmp (path g seat node) u

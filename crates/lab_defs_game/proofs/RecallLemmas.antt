@@ -12,9 +12,9 @@ use Rattle.lab_defs_text.specs.Games.{GameModel, Recall, by_acts, by_seen}
 use Rattle.lab_defs_text.specs.Texts.{is_world}
 use Rattle.lab_defs_text.proofs.SplitLemmas.{bytes_eq_is, bytes_eq_refl}
 use Rattle.lab_defs_game.specs.Keys.{list_cmp}
-use Rattle.lab_defs_game.specs.Histories.{History, histories, inner_histories, place_of}
+use Rattle.lab_defs_game.specs.Histories.{History, histories, inner_histories, place_of, action_names}
 use Rattle.lab_defs_game.specs.Sets.{seen, publics, set_cmp}
-use Rattle.lab_defs_game.specs.Recall.{RecallFault, legal_differs, forgotten, names_at, same_names, one_set, differ, owns, actions, same_list, forgets, confused, place_of_first, first_pair, legal_pair, confused_pair, fault_of, first_fault, recall_fault}
+use Rattle.lab_defs_game.specs.Recall.{RecallFault, legal_differs, forgotten, same_names, one_set, differ, owns, actions, same_list, forgets, confused, place_of_first, first_pair, legal_pair, confused_pair, fault_of, first_fault, recall_fault}
 use Rattle.lab_defs_game.specs.Laws.{AlikeNames, Remembers, RecallLaw}
 use Rattle.lab_defs_game.proofs.Orders.{list_total, list_exact, set_total, set_exact}
 use Rattle.lab_defs_game.proofs.Spans.{eq_is}
@@ -130,11 +130,11 @@ same_list_is xs ys e = list_exact xs ys (eq_is (list_cmp xs ys) e)
 
 -- two histories that see the same, and do not differ, have the same names
 names_from : (g : GameModel) (seat : ℕ) (h k : History) → In h (inner_histories g) → In k (inner_histories g) → seen g seat h ≡ seen g seat k → differ g seat h k ≡ false
-    → names_at seat (place_of g h) ≡ names_at seat (place_of g k)
+    → action_names seat (place_of g h) ≡ action_names seat (place_of g k)
 names_from g seat h k i j e f =
-    names_same (names_at seat (place_of g h)) (names_at seat (place_of g k))
-    (holds (same_names (names_at seat (place_of g h)) (names_at seat (place_of g k)))
-    (second_fails (one_set g seat h k) (not (same_names (names_at seat (place_of g h)) (names_at seat (place_of g k)))) f
+    names_same (action_names seat (place_of g h)) (action_names seat (place_of g k))
+    (holds (same_names (action_names seat (place_of g h)) (action_names seat (place_of g k)))
+    (second_fails (one_set g seat h k) (not (same_names (action_names seat (place_of g h)) (action_names seat (place_of g k)))) f
     (and_from (is_world (place_of g h)) (is_world (place_of g k) && is_eq (set_cmp (seen g seat h) (seen g seat k))) (inner_world g h i).1
     (and_from (is_world (place_of g k)) (is_eq (set_cmp (seen g seat h) (seen g seat k))) (inner_world g k j).1
     (ap (λ s. is_eq (set_cmp (seen g seat h) s)) (sym e) ∙ ap is_eq (tied_itself set_total (seen g seat h)))))))
@@ -143,12 +143,12 @@ names_from g seat h k i j e f =
 pub alike_from : (g : GameModel) (seat : ℕ) → legal_pair g seat ≡ None → AlikeNames g seat
 alike_from g seat none h k c d e = at (in_from_contains (inner_histories g) h c) (in_from_contains (inner_histories g) k d)
   where
-    pick : In h (inner_histories g) → In k (inner_histories g) → (h ≡ k) ⊎ ((differ g seat h k ≡ false) ⊎ (differ g seat k h ≡ false)) → names_at seat (place_of g h) ≡ names_at seat (place_of g k)
-    pick i j (inl q) = ap (λ x. names_at seat (place_of g x)) q
+    pick : In h (inner_histories g) → In k (inner_histories g) → (h ≡ k) ⊎ ((differ g seat h k ≡ false) ⊎ (differ g seat k h ≡ false)) → action_names seat (place_of g h) ≡ action_names seat (place_of g k)
+    pick i j (inl q) = ap (λ x. action_names seat (place_of g x)) q
     pick i j (inr (inl f)) = names_from g seat h k i j e f
     pick i j (inr (inr f)) = sym (names_from g seat k h j i (sym e) f)
 
-    at : In h (inner_histories g) → In k (inner_histories g) → names_at seat (place_of g h) ≡ names_at seat (place_of g k)
+    at : In h (inner_histories g) → In k (inner_histories g) → action_names seat (place_of g h) ≡ action_names seat (place_of g k)
     at i j = pick i j (all_fine (one_set g seat) (differ g seat) (histories g) [] none h k (inner_world g h i).0 (inner_world g k j).0)
 
 -- a history that leads to a world is not terminal
@@ -161,11 +161,11 @@ alike_none g seat a = fine_none (one_set g seat) (differ g seat) (histories g) [
   where
     clash : (k h : History) → In k (histories g) → In h (histories g) → differ g seat k h ≡ true → ⊥
     clash k h i j t =
-        let p = and_parts (one_set g seat k h) (not (same_names (names_at seat (place_of g k)) (names_at seat (place_of g h)))) t in
+        let p = and_parts (one_set g seat k h) (not (same_names (action_names seat (place_of g k)) (action_names seat (place_of g h)))) t in
         let q = and_parts (is_world (place_of g k)) (is_world (place_of g h) && is_eq (set_cmp (seen g seat k) (seen g seat h))) p.0 in
         let r = and_parts (is_world (place_of g h)) (is_eq (set_cmp (seen g seat k) (seen g seat h))) q.1 in
         let e = a k h (inner_from_world g k i q.0) (inner_from_world g h j r.0) (set_exact (seen g seat k) (seen g seat h) (eq_is (set_cmp (seen g seat k) (seen g seat h)) r.1)) in
-        not_both p.1 (ap (λ ns. not (same_names (names_at seat (place_of g k)) ns)) (sym e) ∙ ap not (names_itself (names_at seat (place_of g k))))
+        not_both p.1 (ap (λ ns. not (same_names (action_names seat (place_of g k)) ns)) (sym e) ∙ ap not (names_itself (action_names seat (place_of g k))))
 
 -- two histories with the same tokens that are not confused have the same own actions
 actions_from : (g : GameModel) (seat : ℕ) (h k : History) → In h (inner_histories g) → In k (inner_histories g)

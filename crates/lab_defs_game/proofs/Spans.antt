@@ -75,7 +75,7 @@ list_at_holds P x y l t = or_left (is_lt (list_cmp x P)) (is_eq (list_cmp x P)) 
     at (inr e) = ap is_lt (subst (λ z. list_cmp x z ≡ Less) (list_exact y P (eq_is (list_cmp y P) e)) l)
 
 -- less is not equal
-lt_no_eq : (c : Ordering) → is_lt c ≡ true → is_eq c ≡ false
+pub lt_no_eq : (c : Ordering) → is_lt c ≡ true → is_eq c ≡ false
 lt_no_eq c e = ap is_eq (lt_is e)
 
 -- the sets at the node P are the first ones of its span

@@ -1,5 +1,5 @@
 -- The laws of nodes, sets, spans and paths, in the words of the laws.
-use Rattle.std.proofs.Common.{◌≡◌, ℕ, suc, ◌+◌, ◌<◌, ◌≤◌, List, [], ◌∷◌, ◌++◌, Bool, true, false, cond, map, filter, length, get_or, Option, Some, None, refl, sym, ap, ◌∙◌, subst, arith, inl, inr, ◌⊎◌, ◌↔◌}
+use Rattle.std.proofs.Common.{◌≡◌, ℕ, suc, ◌+◌, ◌<◌, ◌≤◌, List, [], ◌∷◌, ◌++◌, true, map, length, get_or, Option, Some, None, refl, sym, ap, ◌∙◌, subst, arith, inl, inr, ◌⊎◌, ◌↔◌}
 use Rattle.std.specs.List.{Contains}
 use Rattle.std.specs.Ordering.{is_eq}
 use Rattle.std.specs.declared.cmp.Ordering.{Ordering}
@@ -12,11 +12,11 @@ use Rattle.lab_defs_text.specs.Games.{GameModel}
 use Rattle.lab_defs_game.specs.Keys.{count, number_of, list_cmp}
 use Rattle.lab_defs_game.specs.Histories.{History, reached, histories, inner_histories, outcome_of}
 use Rattle.lab_defs_game.specs.Sets.{Item, item_of, seen, public_list, publics, set_cmp, sets, set_number, public_from}
-use Rattle.lab_defs_game.specs.Forms.{Taken, taken_from}
-use Rattle.lab_defs_game.specs.Nodes.{begins, nodes, node_sets, span_from, path, parent, is_taken}
-use Rattle.lab_defs_game.specs.Laws.{SetLaw, SetHistoryLaw, NodeLaw, NodeHistoryLaw, SetNodeLaw, SpanLaw, NodeSetLaw, NodeSpanLaw, ParentLaw, FirstSetLaw, AlongLaw, PathLaw, FollowerLaw, DepthLaw, BeginsLaw, InsideLaw, FollowersLaw}
+use Rattle.lab_defs_game.specs.Paths.{SetAction, taken_from, parent}
+use Rattle.lab_defs_game.specs.Nodes.{begins, nodes, node_sets, span_from, path}
+use Rattle.lab_defs_game.specs.Laws.{SetLaw, SetHistoryLaw, NodeLaw, NodeHistoryLaw, SetNodeLaw, SpanLaw, NodeSetLaw, NodeSpanLaw, ParentLaw, FirstSetLaw, AlongLaw, PathParentLaw, FollowerLaw, DepthLaw, BeginsLaw, InsideLaw}
 use Rattle.lab_defs_game.proofs.KeyLemmas.{Ascending, in_order_from}
-use Rattle.lab_defs_game.proofs.NumberLemmas.{number_at, number_below, at_number, count_at_true, count_at_false, is_true_or}
+use Rattle.lab_defs_game.proofs.NumberLemmas.{length-filter, number_at, number_below, at_number}
 use Rattle.lab_defs_game.proofs.Orders.{list_total, list_exact, set_total}
 use Rattle.lab_defs_game.proofs.GameLemmas.{Follows, set_has, set_from, set_cases, sets_ascending, nodes_ascending, node_has, publics_seen, parent_is, parent_before, taken_push, last_push, seen_push}
 use Rattle.lab_defs_game.proofs.Spans.{span_is, node_span_is, node_sets_are, eq_is}
@@ -62,15 +62,6 @@ set_node_law g seat h = publics_seen g seat g.root h
 -- the law of spans
 pub span_law : SpanLaw
 span_law g seat node i l = span_is g seat node i [] l
-
--- how many are kept
-pub length-filter : {K : Type 0} (p : K → Bool) (xs : List K) → length (filter p xs) ≡ count p xs
-length-filter p [] = refl
-length-filter p (x ∷ xs) = at (is_true_or (p x)) (length-filter p xs)
-  where
-    at : (p x ≡ true) ⊎ (p x ≡ false) → length (filter p xs) ≡ count p xs → length (filter p (x ∷ xs)) ≡ count p (x ∷ xs)
-    at (inl e) r = ap (λ b. length (cond b (x ∷ filter p xs) (filter p xs))) e ∙ ap suc r ∙ sym (count_at_true p x xs e)
-    at (inr e) r = ap (λ b. length (cond b (x ∷ filter p xs) (filter p xs))) e ∙ r ∙ sym (count_at_false p x xs e)
 
 -- the law of the sets of one node
 pub node_set_law : NodeSetLaw
@@ -168,7 +159,7 @@ first_set_law g seat s c = (
     first n (inl e) = e
     first n (inr f) = let l = parent_before g seat s f in absurd (omega (arith, l, n))
 
-    never : (t : Taken) → ◌≡◌ {A = Option Taken} (Some t) None → ⊥
+    never : (t : SetAction) → ◌≡◌ {A = Option SetAction} (Some t) None → ⊥
     never t e = cc
 
     second : parent g seat s ≡ None → (s ≡ []) ⊎ Follows g seat s → s ≡ []
@@ -183,7 +174,7 @@ along_law g seat h s = (
 )
 
 -- the law of parents on a path
-pub path_law : PathLaw
+pub path_law : PathParentLaw
 path_law g seat node s x c =
     let i = in_from_contains (path g seat node) (s ++ x ∷ []) c in
     let r = follows_push g seat s x (path_has g seat node (s ++ x ∷ []) i).0 in
@@ -233,7 +224,3 @@ inside_law g seat node s x c =
       λ b. inside_follower g seat node (s ++ x ∷ []) r.0 (subst (λ t. begins node (publics t) ≡ true) (sym r.1) b),
       λ b. subst (λ t. (begins node (publics t) ≡ true) ↔ (span_from g seat node ≤ set_number g seat t)) r.1 (parent_number g seat node (s ++ x ∷ []) i r.0 b),
     )
-
--- the law of how many follow
-pub followers_law : FollowersLaw
-followers_law g seat node t = length-filter (λ s. is_taken t (parent g seat s)) (path g seat node)

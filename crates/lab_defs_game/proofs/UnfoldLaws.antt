@@ -11,7 +11,7 @@ use Rattle.lab_defs_game.specs.Histories.{History, place_of, reached, steps_of, 
 use Rattle.lab_defs_game.specs.Sets.{most_decisions}
 use Rattle.lab_defs_game.specs.Chance.{scale}
 use Rattle.lab_defs_game.specs.Unfolding.{UnfoldFault, too_many_histories, horizon_passed, size_passed, history_limit, standing, history_count, first_too_many, first_world, top_payoff, size, told_scale, unfold_fault}
-use Rattle.lab_defs_game.specs.Laws.{IsLegal, history_cmp, IsFew, IsOpen, TooManyLaw, HorizonLaw, SizeLaw, AcceptedLaw}
+use Rattle.lab_defs_game.specs.Laws.{IsLegal, history_cmp, IsFew, IsOpen, TooManyLaw, HorizonLaw, SizePassedLaw, AcceptedLaw}
 use Rattle.lab_defs_game.proofs.KeyLemmas.{Ascending}
 use Rattle.lab_defs_game.proofs.Legal.{legal_history, legal_push, step_from, length_push}
 use Rattle.lab_defs_game.proofs.HistoryOrder.{history_total, level_ascending}
@@ -274,7 +274,7 @@ horizon_law g n = (there, back)
     back r = answer_same g None (Some n) (passed g) ((few_is g).0 r.0) (pick (open_found g) refl r.1.0 r.1.1 r.1.2 r.1.3) refl
 
 -- the law of the size
-pub size_law : SizeLaw
+pub size_law : SizePassedLaw
 size_law g u k m n = (there, back)
   where
     there : unfold_fault g ≡ Some (size_passed u k m n) → IsFew g × ((h : History) → IsOpen g h → ⊥) × (2 ^ 64 < size g)

@@ -6,13 +6,13 @@ use Rattle.std.specs.declared.cmp.Ordering.TheVariants.{Less}
 use Rattle.std.proofs.lemmas.Bool.{and_parts, and_from, eqb-true}
 use Rattle.lab_math.proofs.Members.{In, in_filter, in_from_filter}
 use Rattle.lab_defs_text.specs.Games.{GameModel}
-use Rattle.lab_defs_game.specs.Keys.{number_of}
+use Rattle.lab_defs_game.specs.Keys.{count, number_of}
 use Rattle.lab_defs_game.specs.Histories.{reached}
 use Rattle.lab_defs_game.specs.Sets.{Item, item_of, seen, publics, set_cmp, sets, set_number}
-use Rattle.lab_defs_game.specs.Forms.{Taken}
-use Rattle.lab_defs_game.specs.Nodes.{begins, path, span_from, span_to, parent, is_taken, following}
+use Rattle.lab_defs_game.specs.Paths.{SetAction, parent, is_taken}
+use Rattle.lab_defs_game.specs.Nodes.{begins, path, span_from, span_to, following}
 use Rattle.lab_defs_game.proofs.KeyLemmas.{Ascending, filter_ascending}
-use Rattle.lab_defs_game.proofs.NumberLemmas.{number_lt, number_below, at_number, count_none}
+use Rattle.lab_defs_game.proofs.NumberLemmas.{number_lt, number_below, at_number, count_none, length-filter, map_same}
 use Rattle.lab_defs_game.proofs.GameLemmas.{Follows, set_cases, set_has, sets_ascending, parent_before}
 use Rattle.lab_defs_game.proofs.Orders.{set_total, publics-push, before_longer}
 use Rattle.lab_defs_game.proofs.Places.{passing, places_are}
@@ -54,7 +54,7 @@ begins_cases (z ∷ P) (y ∷ q) x b =
     at e t (inr r) = inr (ap (λ n. n ∷ P) e ∙ ap (λ l. y ∷ l) r)
 
 -- the public list of a set that follows another
-publics_of : (g : GameModel) (seat : ℕ) (s : List Item) → (f : Follows g seat s) → publics s ≡ publics (seen g seat f.history) ++ (item_of g seat (reached g g.root f.history) f.step).public ∷ []
+pub publics_of : (g : GameModel) (seat : ℕ) (s : List Item) → (f : Follows g seat s) → publics s ≡ publics (seen g seat f.history) ++ (item_of g seat (reached g g.root f.history) f.step).public ∷ []
 publics_of g seat s f = ap publics f.made ∙ publics-push (seen g seat f.history) (item_of g seat (reached g g.root f.history) f.step)
 
 -- ---- the path of P
@@ -78,9 +78,14 @@ path_parent g seat P s i f =
     (there, number_lt set_cmp set_total (path g seat P) before s (path_ascending g seat P) there (subst (λ t. set_cmp before t ≡ Less) (sym f.made) (before_longer before x)))
 
 -- the sets of a path that follow a set by an action have the places 0, 1, .. in their order
-pub follower_places : (g : GameModel) (seat : ℕ) (P : List ℕ) (t : Taken)
+pub follower_places : (g : GameModel) (seat : ℕ) (P : List ℕ) (t : SetAction)
     → map (λ i. following g seat t (take i (path g seat P))) (passing (λ s. is_taken t (parent g seat s)) [] (path g seat P)) ≡ range_with_len 0 (following g seat t (path g seat P))
-follower_places g seat P t = places_are (λ s. is_taken t (parent g seat s)) [] (path g seat P)
+follower_places g seat P t =
+    let ss = path g seat P in
+    let counted = λ (us : List (List Item)). length-filter (λ s. is_taken t (parent g seat s)) us in
+    map_same (λ i. following g seat t (take i ss)) (λ i. count (λ s. is_taken t (parent g seat s)) (take i ss)) (λ i. counted (take i ss)) (passing (λ s. is_taken t (parent g seat s)) [] ss)
+    ∙ places_are (λ s. is_taken t (parent g seat s)) [] ss
+    ∙ ap (range_with_len 0) (sym (counted ss))
 
 -- ---- the subgame of P
 

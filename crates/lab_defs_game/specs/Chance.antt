@@ -15,7 +15,7 @@ abbrev pub totals_at : Place → List ℕ
 totals_at (a_world w) = map row_total w.rows
 totals_at (an_end z) = []
 
--- the unit of step t: the least common multiple of the totals of all rows of worlds where a non-terminal history of t steps stands
+-- the unit of step t: the least common multiple of the totals of all rows of worlds where a non-terminal history of t steps leads
 abbrev pub chance_unit : GameModel → ℕ → ℕ
 chance_unit g t = lcm_of (flat_map (λ h. totals_at (place_of g h)) (filter (λ h. length h == t) (inner_histories g)))
 

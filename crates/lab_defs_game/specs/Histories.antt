@@ -1,6 +1,7 @@
 -- The histories of a game, as the lists of their steps.
 use Rattle.std.specs.Prelude.{ℕ, zero, suc, ◌+◌, ◌*◌, ℤ, pos, List, [], ◌∷◌, ◌++◌, length, map, flat_map, filter, Bool, not, ◌==◌, if◌then◌else◌, slice_index_or}
 use Rattle.std.specs.List.{range_with_len}
+use Rattle.lab_defs_text.specs.Words.{Bytes}
 use Rattle.lab_defs_text.specs.Games.{GameModel, Place, a_world, an_end, Outcome}
 use Rattle.lab_defs_text.specs.Texts.{place_at, is_world}
 
@@ -18,6 +19,11 @@ History = List Step
 abbrev pub actions_at : ℕ → Place → ℕ
 actions_at seat (a_world w) = if seat == 1 then length w.one else length w.two
 actions_at seat (an_end z) = 0
+
+-- the names of a seat's actions at a place
+abbrev pub action_names : ℕ → Place → List Bytes
+action_names seat (a_world w) = if seat == 1 then w.one else w.two
+action_names seat (an_end z) = []
 
 -- the outcomes of a joint action
 abbrev pub row_of : Place → ℕ → ℕ → List Outcome
@@ -60,9 +66,11 @@ histories g = with_longer g g.horizon ([] ∷ [])
 abbrev pub is_terminal : GameModel → History → Bool
 is_terminal g h = not (is_world (place_of g h))
 
+-- the histories that lead to an end, in their order
 abbrev pub terminal_histories : GameModel → List History
 terminal_histories g = filter (is_terminal g) (histories g)
 
+-- the histories that lead to a world, in their order
 abbrev pub inner_histories : GameModel → List History
 inner_histories g = filter (λ h. is_world (place_of g h)) (histories g)
 
@@ -71,5 +79,6 @@ abbrev pub payoff_at : Place → ℤ
 payoff_at (a_world w) = pos 0
 payoff_at (an_end z) = z
 
+-- what a history pays seat 1, 0 where it does not lead to an end
 abbrev pub payoff : GameModel → History → ℤ
 payoff g h = payoff_at (place_of g h)

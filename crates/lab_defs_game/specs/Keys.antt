@@ -1,4 +1,4 @@
--- Distinct keys in an order, and the number of a key: how many keys stand before it.
+-- Distinct keys in an order, and the number of a key: how many keys come before it.
 use Rattle.std.specs.Prelude.{ℕ, ◌+◌, List, [], ◌∷◌, Bool, if◌then◌else◌}
 use Rattle.std.specs.declared.cmp.Ordering.{Ordering}
 use Rattle.std.specs.Ordering.{is_lt, nat_cmp}
@@ -20,7 +20,7 @@ module _ {K : Type 0} (cmp : K → K → Ordering) where
   abbrev pub in_order : List K → List K
   in_order ks = merged [] ks
 
-  -- how many of the keys stand before k
+  -- how many of the keys come before k
   abbrev pub number_of : List K → K → ℕ
   number_of ks k = count (λ x. is_lt (cmp x k)) ks
 

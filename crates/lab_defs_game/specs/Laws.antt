@@ -1,5 +1,6 @@
 -- Laws of histories, nodes, sets, spans and paths.
-use Rattle.std.specs.Prelude.{Option, Bool, false, ℤ, flat_map, ◌^◌, ◌⊎◌, ◌≡◌, ℕ, ◌+◌, ◌<◌, ◌≤◌, List, [], ◌∷◌, ◌++◌, length, map, filter, take, true, ◌==◌, if◌then◌else◌, Some, None, ◌↔◌, slice_index_or}
+use Rattle.std.specs.Prelude.{Option, Bool, false, ℤ, ◌-◌, ◌&&◌, ◌^◌, ◌⊎◌, ◌≡◌, ℕ, ◌+◌, ◌<◌, ◌≤◌, List, [], ◌∷◌, ◌++◌, length, map, filter, take, true, ◌==◌, if◌then◌else◌, Some, None, ◌↔◌, slice_index_or}
+use Rattle.std.specs.Int.{◌∣◌}
 use Rattle.std.specs.List.{Contains, range_with_len}
 use Rattle.std.specs.List.Sorted.{IsStrictlySortedBy}
 use Rattle.std.specs.declared.cmp.Ordering.{Ordering}
@@ -9,13 +10,15 @@ use Rattle.std.specs.Cmp.Lexicographic.{slice_cmp}
 use Rattle.lab_math.specs.Sums.{total}
 use Rattle.lab_defs_text.specs.Games.{GameModel, Place, by_seen}
 use Rattle.lab_defs_text.specs.Texts.{place_at, is_world}
+use Rattle.lab_defs_game.specs.Seats.{IsSeat}
 use Rattle.lab_defs_game.specs.Keys.{count, number_of}
-use Rattle.lab_defs_game.specs.Histories.{History, Step, actions_at, row_of, outcome_of, place_of, reached, with_longer, histories, inner_histories, terminal_histories}
+use Rattle.lab_defs_game.specs.Histories.{History, Step, actions_at, row_of, outcome_of, place_of, reached, with_longer, histories, inner_histories, terminal_histories, action_names}
 use Rattle.lab_defs_game.specs.Sets.{Item, seen, public_list, publics, set_cmp, sets, set_number, most_decisions}
-use Rattle.lab_defs_game.specs.Chance.{scale}
-use Rattle.lab_defs_game.specs.Forms.{Taken, path_along}
-use Rattle.lab_defs_game.specs.Nodes.{nodes, node_number, node_of, node_sets, node_ends, Follow, path_item, begins, span_from, span_to, path, parent, is_taken, following, depth, followers}
-use Rattle.lab_defs_game.specs.Recall.{legal_differs, forgotten, names_at, one_set, differ, owns, actions, confused, recall_fault}
+use Rattle.lab_defs_game.specs.Chance.{totals_at, chance_unit, chance, scale}
+use Rattle.lab_defs_game.specs.Paths.{SetAction, path_along, parent, is_taken}
+use Rattle.lab_defs_game.specs.Nodes.{nodes, node_number, node_of, node_sets, Follow, path_item, begins, span_from, span_to, path, following, depth, sets_inside, ends_by_nodes, public_of, path_sets, root_sets, subgame_sets}
+use Rattle.lab_defs_game.specs.Accepted.{IsAccepted}
+use Rattle.lab_defs_game.specs.Recall.{legal_differs, forgotten, one_set, differ, owns, actions, confused, recall_fault}
 use Rattle.lab_defs_game.specs.Unfolding.{too_many_histories, horizon_passed, size_passed, history_limit, history_count, top_payoff, size, told_scale, unfold_fault}
 
 -- ---- histories
@@ -41,7 +44,7 @@ step_cmp = then_cmp (on (λ s. s.action1) nat_cmp) (then_cmp (on (λ s. s.action
 abbrev pub history_cmp : History → History → Ordering
 history_cmp = then_cmp (on length nat_cmp) (slice_cmp step_cmp)
 
--- the histories stand in this order, each once
+-- the histories are in this order, each once
 abbrev pub HistoryOrderLaw : Type 0
 HistoryOrderLaw = (g : GameModel) → IsStrictlySortedBy history_cmp (histories g)
 
@@ -70,14 +73,26 @@ HorizonLaw = (g : GameModel) (n : ℕ) → (unfold_fault g ≡ Some (horizon_pas
     ↔ (IsFew g × ((h : History) × IsOpen g h × ((k : History) → IsOpen g k → (k ≡ h) ⊎ (history_cmp h k ≡ Less)) × (n ≡ reached g g.root h)))
 
 -- the size is passed: where neither is so, with the greatest payoff, the scale and the most decisions
-abbrev pub SizeLaw : Type 0
-SizeLaw = (g : GameModel) (top : ℕ) (k : Option ℕ) (most1 most2 : ℕ) → (unfold_fault g ≡ Some (size_passed top k most1 most2))
+abbrev pub SizePassedLaw : Type 0
+SizePassedLaw = (g : GameModel) (top : ℕ) (k : Option ℕ) (most1 most2 : ℕ) → (unfold_fault g ≡ Some (size_passed top k most1 most2))
     ↔ (IsFew g × ((h : History) → IsOpen g h → ⊥) × (2 ^ 64 < size g)
     × (top ≡ top_payoff g) × (k ≡ told_scale (scale g)) × (most1 ≡ most_decisions g 1) × (most2 ≡ most_decisions g 2))
 
 -- a game is unfolded exactly where none is so
 abbrev pub AcceptedLaw : Type 0
 AcceptedLaw = (g : GameModel) → (unfold_fault g ≡ None) ↔ (IsFew g × ((h : History) → IsOpen g h → ⊥) × (size g ≤ 2 ^ 64))
+
+-- ---- chance
+
+-- the unit of a step is a multiple of the total of each row of a world where a non-terminal history of that many steps leads, and divides each other such multiple
+abbrev pub UnitLaw : Type 0
+UnitLaw = (g : GameModel) (t : ℕ) →
+    ((h : History) (n : ℕ) → Contains (inner_histories g) h → length h ≡ t → Contains (totals_at (place_of g h)) n → n ∣ chance_unit g t)
+    × ((m : ℕ) → ((h : History) (n : ℕ) → Contains (inner_histories g) h → length h ≡ t → Contains (totals_at (place_of g h)) n → n ∣ m) → chance_unit g t ∣ m)
+
+-- no history within the horizon has a chance above the scale
+abbrev pub ChanceLaw : Type 0
+ChanceLaw = (g : GameModel) (h : History) → length h ≤ g.horizon → chance g h ≤ scale g
 
 -- ---- nodes and sets
 
@@ -100,6 +115,11 @@ NodeLaw = (g : GameModel) (h : History) → Contains (histories g) h
 abbrev pub NodeHistoryLaw : Type 0
 NodeHistoryLaw = (g : GameModel) (i : ℕ) → i < length (nodes g) → (h : History) × Contains (histories g) h × (public_list g h ≡ slice_index_or (nodes g) i [])
 
+-- each set of an accepted game has a row: a terminal history whose path passes through it
+abbrev pub SetRowLaw : Type 0
+SetRowLaw = (g : GameModel) → IsAccepted g → (seat : ℕ) → IsSeat seat → (i : ℕ) → i < length (sets g seat)
+    → (h : History) × Contains (ends_by_nodes g) h × Contains (map (λ (t : SetAction). t.set) (path_along g seat h)) i
+
 -- all histories of a set are at one node
 abbrev pub SetNodeLaw : Type 0
 SetNodeLaw = (g : GameModel) (seat : ℕ) (h : History) → publics (seen g seat h) ≡ public_list g h
@@ -108,13 +128,16 @@ SetNodeLaw = (g : GameModel) (seat : ℕ) (h : History) → publics (seen g seat
 abbrev pub DepthLaw : Type 0
 DepthLaw = (g : GameModel) (h : History) → depth (public_list g h) ≡ length h
 
--- the terminal histories, node by node, are all of them: each sum is the same
+-- the terminal histories, node by node, are all of them: the same histories, as many, and each sum is the same
 abbrev pub NodeEndLaw : Type 0
-NodeEndLaw = (g : GameModel) (f : History → ℤ) → total f (flat_map (node_ends g) (nodes g)) ≡ total f (terminal_histories g)
+NodeEndLaw = (g : GameModel)
+    → ((h : History) → Contains (ends_by_nodes g) h ↔ Contains (terminal_histories g) h)
+    × (length (ends_by_nodes g) ≡ length (terminal_histories g))
+    × ((f : History → ℤ) → total f (ends_by_nodes g) ≡ total f (terminal_histories g))
 
 -- ---- subgames
 
--- one list begins another exactly where the other is the one with something behind it
+-- one list begins another exactly where the other is the one with something after it
 abbrev pub BeginsLaw : Type 0
 BeginsLaw = (xs ys : List ℕ) → (begins xs ys ≡ true) ↔ ((rest : List ℕ) × (ys ≡ xs ++ rest))
 
@@ -123,10 +146,27 @@ abbrev pub SpanLaw : Type 0
 SpanLaw = (g : GameModel) (seat : ℕ) (node : List ℕ) (i : ℕ) → i < length (sets g seat)
     → (begins node (publics (slice_index_or (sets g seat) i [])) ≡ true) ↔ ((span_from g seat node ≤ i) × (i < span_to g seat node))
 
--- those at the node itself stand first in it
+-- those at the node itself come first in it
 abbrev pub NodeSetLaw : Type 0
 NodeSetLaw = (g : GameModel) (seat : ℕ) (node : List ℕ) (i : ℕ) → i < length (sets g seat)
     → (publics (slice_index_or (sets g seat) i []) ≡ node) ↔ ((span_from g seat node ≤ i) × (i < span_from g seat node + length (node_sets g seat node)))
+
+-- where a seat has a set inside a subgame, each seat has one at its node
+abbrev pub RootLaw : Type 0
+RootLaw = (g : GameModel) (seat other : ℕ) (node : List ℕ) → 0 < length (sets_inside g seat node) → 0 < length (node_sets g other node)
+
+-- by number, the sets on a path, at a node and inside a subgame are those whose public list is one of its prefixes, is it, and has it as a prefix
+abbrev pub NumberLaw : Type 0
+NumberLaw = (g : GameModel) (seat : ℕ) (node : List ℕ) →
+    (path_sets g seat node ≡ filter (λ I. begins (public_of g seat I) node) (range_with_len 0 (length (sets g seat))))
+    × (root_sets g seat node ≡ filter (λ I. begins (public_of g seat I) node && begins node (public_of g seat I)) (range_with_len 0 (length (sets g seat))))
+    × (subgame_sets g seat node ≡ filter (λ I. begins node (public_of g seat I)) (range_with_len 0 (length (sets g seat))))
+
+-- those at a node and inside its subgame have consecutive numbers, from the start of its span on
+abbrev pub ConsecutiveLaw : Type 0
+ConsecutiveLaw = (g : GameModel) (seat : ℕ) (node : List ℕ) →
+    (root_sets g seat node ≡ range_with_len (span_from g seat node) (length (node_sets g seat node)))
+    × (subgame_sets g seat node ≡ range_with_len (span_from g seat node) (span_to g seat node - span_from g seat node))
 
 -- the nodes of a subgame have numbers from its node's on
 abbrev pub NodeSpanLaw : Type 0
@@ -155,24 +195,20 @@ FirstSetLaw = (g : GameModel) (seat : ℕ) (s : List Item) → Contains (sets g 
 -- a step further along a history, the path has one more set and action: the parent of what is seen then
 abbrev pub AlongLaw : Type 0
 AlongLaw = (g : GameModel) (seat : ℕ) (h : History) (s : Step) →
-    let t : Taken = record { set = set_number g seat (seen g seat h); action = if seat == 1 then s.action1 else s.action2 } in
+    let t : SetAction = record { set = set_number g seat (seen g seat h); action = if seat == 1 then s.action1 else s.action2 } in
     (path_along g seat (h ++ s ∷ []) ≡ path_along g seat h ++ t ∷ []) × (parent g seat (seen g seat (h ++ s ∷ [])) ≡ Some t)
 
 -- the parent of a set on a path is on the path, before it
-abbrev pub PathLaw : Type 0
-PathLaw = (g : GameModel) (seat : ℕ) (node : List ℕ) (s : List Item) (x : Item) → Contains (path g seat node) (s ++ x ∷ [])
+abbrev pub PathParentLaw : Type 0
+PathParentLaw = (g : GameModel) (seat : ℕ) (node : List ℕ) (s : List Item) (x : Item) → Contains (path g seat node) (s ++ x ∷ [])
     → Contains (path g seat node) s × (number_of set_cmp (path g seat node) s < number_of set_cmp (path g seat node) (s ++ x ∷ []))
 
 -- those on a path that follow a set by an action have the places 0, 1, .. in their order
 abbrev pub FollowerLaw : Type 0
-FollowerLaw = (g : GameModel) (seat : ℕ) (node : List ℕ) (t : Taken) →
+FollowerLaw = (g : GameModel) (seat : ℕ) (node : List ℕ) (t : SetAction) →
     map (λ i. following g seat t (take i (path g seat node)))
     (filter (λ i. is_taken t (parent g seat (slice_index_or (path g seat node) i []))) (range_with_len 0 (length (path g seat node))))
     ≡ range_with_len 0 (following g seat t (path g seat node))
-
--- as many of a path's sets follow a set by an action as are counted
-abbrev pub FollowersLaw : Type 0
-FollowersLaw = (g : GameModel) (seat : ℕ) (node : List ℕ) (t : Taken) → length (followers g seat node t) ≡ following g seat t (path g seat node)
 
 -- an item of a path that follows does so by its parent's action, the parent being the set of an earlier item, and as one of those that do
 abbrev pub FollowLaw : Type 0
@@ -187,7 +223,7 @@ FirstItemLaw = (g : GameModel) (seat : ℕ) (node : List ℕ) (i : ℕ) → i < 
 
 -- the histories of each set of a seat have the same names of its actions
 abbrev pub AlikeNames : GameModel → ℕ → Type 0
-AlikeNames g seat = (h k : History) → Contains (inner_histories g) h → Contains (inner_histories g) k → seen g seat h ≡ seen g seat k → names_at seat (place_of g h) ≡ names_at seat (place_of g k)
+AlikeNames g seat = (h k : History) → Contains (inner_histories g) h → Contains (inner_histories g) k → seen g seat h ≡ seen g seat k → action_names seat (place_of g h) ≡ action_names seat (place_of g k)
 
 -- the tokens that a seat has seen tell its own actions
 abbrev pub Remembers : GameModel → ℕ → Type 0

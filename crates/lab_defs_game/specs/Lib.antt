@@ -1,10 +1,13 @@
 pub mod Keys
+pub mod Seats
 pub mod Histories
 pub mod Sets
 pub mod Chance
-pub mod Forms
+pub mod Paths
 pub mod Nodes
+pub mod Forms
 pub mod Unfolding
 pub mod Recall
+pub mod Accepted
 pub mod Counts
 pub mod Laws

@@ -1,24 +1,19 @@
 -- Why a game has no perfect recall.
-use Rattle.std.specs.Prelude.{ℕ, ◌+◌, List, [], ◌∷◌, ◌++◌, length, map, Bool, true, false, not, ◌&&◌, ◌==◌, if◌then◌else◌, Option, Some, None}
+use Rattle.std.specs.Prelude.{ℕ, ◌+◌, List, [], ◌∷◌, ◌++◌, length, map, Bool, true, false, not, ◌&&◌, if◌then◌else◌, Option, Some, None}
 use Rattle.std.specs.List.{list_any}
 use Rattle.std.specs.Ordering.{is_eq}
 use Rattle.std.specs.Str.{bytes_eq}
 use Rattle.lab_defs_text.specs.Words.{Bytes}
-use Rattle.lab_defs_text.specs.Games.{GameModel, Place, a_world, an_end, Recall, by_acts, by_seen}
+use Rattle.lab_defs_text.specs.Games.{GameModel, Recall, by_acts, by_seen}
 use Rattle.lab_defs_text.specs.Texts.{is_world}
 use Rattle.lab_defs_game.specs.Keys.{list_cmp}
-use Rattle.lab_defs_game.specs.Histories.{History, histories, place_of}
+use Rattle.lab_defs_game.specs.Histories.{History, histories, place_of, action_names}
 use Rattle.lab_defs_game.specs.Sets.{Item, seen, publics, set_cmp}
 
 -- two histories of one set whose actions have other names, and two with the same tokens whose own actions differ: the seat, and the numbers of both histories
 pub data RecallFault : Type 0 where
   legal_differs : ℕ → ℕ → ℕ → RecallFault
   forgotten : ℕ → ℕ → ℕ → RecallFault
-
--- the names of a seat's actions at a place
-abbrev pub names_at : ℕ → Place → List Bytes
-names_at seat (a_world w) = if seat == 1 then w.one else w.two
-names_at seat (an_end z) = []
 
 -- whether two lists of names are one
 abbrev pub same_names : List Bytes → List Bytes → Bool
@@ -32,7 +27,7 @@ one_set g seat h k = is_world (place_of g h) && (is_world (place_of g k) && is_e
 
 -- two of one set, where the seat's actions have other names
 abbrev pub differ : GameModel → ℕ → History → History → Bool
-differ g seat h k = one_set g seat h k && not (same_names (names_at seat (place_of g h)) (names_at seat (place_of g k)))
+differ g seat h k = one_set g seat h k && not (same_names (action_names seat (place_of g h)) (action_names seat (place_of g k)))
 
 -- the private tokens of a seen list
 abbrev pub owns : List Item → List ℕ
@@ -54,12 +49,12 @@ forgets s t = same_list (owns s) (owns t) && (same_list (publics s) (publics t) 
 abbrev pub confused : GameModel → ℕ → History → History → Bool
 confused g seat h k = is_world (place_of g h) && (is_world (place_of g k) && forgets (seen g seat h) (seen g seat k))
 
--- how many of these stand before the first that passes
+-- how many of these come before the first that passes
 abbrev pub place_of_first : (History → Bool) → List History → ℕ
 place_of_first test [] = 0
 place_of_first test (h ∷ hs) = if test h then 0 else place_of_first test hs + 1
 
--- the first history that clashes with an earlier one, and the first earlier one that it is akin to, by their numbers: `earlier` stand before these
+-- the first history that clashes with an earlier one, and the first earlier one that it is akin to, by their numbers: `earlier` come before these
 abbrev pub first_pair : (akin clash : History → History → Bool) → List History → List History → Option (ℕ × ℕ)
 first_pair akin clash earlier [] = None
 first_pair akin clash earlier (h ∷ hs) =

@@ -15,6 +15,7 @@ pub record Item : Type 0 where
   pub own : ℕ
   pub public : ℕ
 
+-- what a seat sees of a step from the place n
 abbrev pub item_of : GameModel → ℕ → ℕ → Step → Item
 item_of g seat n s = record {
   action = if seat == 1 then s.action1 else s.action2;
@@ -44,6 +45,7 @@ public_list g h = public_from g g.root h
 abbrev pub publics : List Item → List ℕ
 publics s = map (λ x. x.public) s
 
+-- by the own action, then by the private token, then by the public token
 abbrev pub item_cmp : Item → Item → Ordering
 item_cmp = then_cmp (on (λ x. x.action) nat_cmp) (then_cmp (on (λ x. x.own) nat_cmp) (on (λ x. x.public) nat_cmp))
 

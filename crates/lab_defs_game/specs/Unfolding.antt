@@ -5,6 +5,7 @@ use Rattle.lab_math.specs.Sums.{sum_over, greatest_over}
 use Rattle.lab_defs_text.specs.Games.{GameModel}
 use Rattle.lab_defs_text.specs.Texts.{place_at, is_world}
 use Rattle.lab_defs_game.specs.Histories.{outcome_of, steps_of, terminal_histories, payoff}
+use Rattle.lab_defs_game.specs.Seats.{grid_of}
 use Rattle.lab_defs_game.specs.Sets.{most_decisions}
 use Rattle.lab_defs_game.specs.Chance.{scale}
 
@@ -37,7 +38,7 @@ abbrev pub first_too_many : GameModel → ℕ → ℕ → Option ℕ
 first_too_many g t zero = None
 first_too_many g t (suc n) = elim (nat_lt history_limit (history_count g t)) [ true ↦ Some t | false ↦ first_too_many g (t + 1) n ]
 
--- the numbers of the places where the histories of t steps stand, in their order
+-- the numbers of the places where the histories of t steps lead, in their order
 abbrev pub standing : GameModel → ℕ → List ℕ
 standing g zero = g.root ∷ []
 standing g (suc t) = flat_map (λ n. map (λ s. (outcome_of g n s).next) (steps_of (place_at g n))) (standing g t)
@@ -50,9 +51,9 @@ first_world g ns = find (λ n. is_world (place_at g n)) ns
 abbrev pub top_payoff : GameModel → ℕ
 top_payoff g = greatest_over (λ h. unsigned_abs (payoff g h)) (terminal_histories g)
 
--- the greatest absolute value that a sum of earnings may have, in whole units
+-- the size of a game: the greatest payoff, at least 1, in the units of an expectation, which are the scale and each seat's grid for each of its most decisions
 abbrev pub size : GameModel → ℕ
-size g = max 1 (top_payoff g) * scale g * g.grid ^ (most_decisions g 1 + most_decisions g 2)
+size g = max 1 (top_payoff g) * scale g * (grid_of g 1 ^ most_decisions g 1 * grid_of g 2 ^ most_decisions g 2)
 
 -- a scale, unless it passes 2^80
 abbrev pub told_scale : ℕ → Option ℕ

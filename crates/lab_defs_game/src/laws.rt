@@ -6,7 +6,7 @@ ghost use Rattle.lab_defs_game.specs.Laws.{
   HistoryCountLaw,
   TooManyLaw,
   HorizonLaw,
-  SizeLaw,
+  SizePassedLaw,
   AcceptedLaw,
   SetLaw,
   SetHistoryLaw,
@@ -19,7 +19,7 @@ ghost use Rattle.lab_defs_game.specs.Laws.{
   ParentLaw,
   FirstSetLaw,
   AlongLaw,
-  PathLaw,
+  PathParentLaw,
   FollowerLaw,
   FollowLaw,
   FirstItemLaw,
@@ -30,7 +30,12 @@ ghost use Rattle.lab_defs_game.specs.Laws.{
   DepthLaw,
   BeginsLaw,
   InsideLaw,
-  FollowersLaw,
+  UnitLaw,
+  ChanceLaw,
+  SetRowLaw,
+  RootLaw,
+  NumberLaw,
+  ConsecutiveLaw,
 };
 
 /// What the histories of a game are, and in which order they stand.
@@ -48,14 +53,21 @@ pub fn depths()
 pub fn unfolding()
     ensures too_many { TooManyLaw }
     ensures horizon { HorizonLaw }
-    ensures size { SizeLaw }
+    ensures size { SizePassedLaw }
     ensures accepted { AcceptedLaw }
 {}
 
-/// Each history that is not terminal is in one set of each seat, and each set has one.
+/// The unit of a step is the least common multiple of the totals of its rows, and no chance is above the scale.
+pub fn chances()
+    ensures units { UnitLaw }
+    ensures within { ChanceLaw }
+{}
+
+/// Each history that is not terminal is in one set of each seat, and each set has one; in an accepted game each set has a row.
 pub fn sets()
     ensures one { SetLaw }
     ensures some { SetHistoryLaw }
+    ensures rows { SetRowLaw }
 {}
 
 /// Each history is at one node, and each node has one; the histories of a set share theirs.
@@ -74,6 +86,9 @@ pub fn spans()
     ensures nodes { NodeSpanLaw }
     ensures begins { BeginsLaw }
     ensures parents { InsideLaw }
+    ensures roots { RootLaw }
+    ensures numbers { NumberLaw }
+    ensures consecutive { ConsecutiveLaw }
 {}
 
 /// The set that a set follows.
@@ -85,9 +100,8 @@ pub fn parents()
 
 /// The sets on the way to a node.
 pub fn paths()
-    ensures parents { PathLaw }
+    ensures parents { PathParentLaw }
     ensures places { FollowerLaw }
-    ensures followers { FollowersLaw }
     ensures follows { FollowLaw }
     ensures first { FirstItemLaw }
 {}

@@ -11,7 +11,7 @@ use Rattle.lab_defs_report.specs.Cuts.{line_limit, commands_limit, Cut, cut_at, 
 use Rattle.lab_defs_report.specs.Answers.{Answer, silent, refusing}
 use Rattle.lab_defs_report.specs.GameModes.{game_answer, check_cut, counts_line, playable, print_cut, read_text}
 use Rattle.lab_defs_report.specs.Modes as mode
-use Rattle.lab_defs_report.specs.Modes.{Mode, cut}
+use Rattle.lab_defs_report.specs.Modes.{Mode, input_cut}
 use Rattle.lab_defs_report.specs.Reports.{built_answer, built_mode, session_answer, commands_answer, is_too_long}
 use Rattle.lab_defs_report.specs.Laws.{IsFront, FrontLaw}
 use Rattle.lab_defs_report.proofs.CutLemmas.{continued, continued_some, GoesOn, cut_goes_on, lines_append, lines_some}
@@ -119,15 +119,15 @@ session_stays ended ys (cut_refused r) d e = inr (ap (session_answer ended) e)
 session_stays ended ys cut_open d e = inl refl
 
 -- what was found in the first bytes of an input
-input_goes_on : (ended : Bool) (xs ys : Bytes) → GoesOn (cut false xs) (lines ys) (cut ended (xs ++ ys))
+input_goes_on : (ended : Bool) (xs ys : Bytes) → GoesOn (input_cut false xs) (lines ys) (input_cut ended (xs ++ ys))
 input_goes_on ended xs ys = rw (lines_append xs ys) (cut_goes_on ended 1 [] (lines xs) (lines ys) (lines_some ys))
 
 -- an answer to the first bytes of an input stays, whatever follows them
 pub answer_stays : (ended : Bool) (m : Option Mode) (xs ys : Bytes) → Stays (built_answer false xs m) (built_answer ended (xs ++ ys) m)
 answer_stays ended None xs ys = inr refl
-answer_stays ended (Some mode.session) xs ys = session_stays ended (lines ys) (cut false xs) (cut ended (xs ++ ys)) (input_goes_on ended xs ys)
-answer_stays ended (Some mode.check) xs ys = check_stays ended (lines ys) (cut false xs) (cut ended (xs ++ ys)) (input_goes_on ended xs ys)
-answer_stays ended (Some mode.print) xs ys = print_stays ended (lines ys) (cut false xs) (cut ended (xs ++ ys)) (input_goes_on ended xs ys)
+answer_stays ended (Some mode.session) xs ys = session_stays ended (lines ys) (input_cut false xs) (input_cut ended (xs ++ ys)) (input_goes_on ended xs ys)
+answer_stays ended (Some mode.check) xs ys = check_stays ended (lines ys) (input_cut false xs) (input_cut ended (xs ++ ys)) (input_goes_on ended xs ys)
+answer_stays ended (Some mode.print) xs ys = print_stays ended (lines ys) (input_cut false xs) (input_cut ended (xs ++ ys)) (input_goes_on ended xs ys)
 answer_stays ended (Some mode.verify) xs ys = inr refl
 answer_stays ended (Some (mode.generate kind size)) xs ys = inr refl
 answer_stays ended (Some (mode.survey kind size)) xs ys = inr refl

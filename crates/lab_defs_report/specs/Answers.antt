@@ -3,6 +3,7 @@ use Rattle.std.specs.Prelude.{[], ◌++◌, Bool, true, false}
 use Rattle.lab_defs_text.specs.Words.{Bytes}
 use Rattle.lab_defs_report.specs.Refusals.{Refusal, refusal_line}
 
+-- what is written, and whether a refusal is its last line
 pub record Answer : Type 0 where
   pub out : Bytes
   pub refuses : Bool
@@ -19,6 +20,6 @@ silent = answer []
 abbrev pub refusing : Refusal → Answer
 refusing r = record { out = refusal_line r; refuses = true }
 
--- what is written behind other lines
-abbrev pub following : Bytes → Answer → Answer
-following lines a = record { out = lines ++ a.out; refuses = a.refuses }
+-- what is written after other lines
+abbrev pub led_by : Bytes → Answer → Answer
+led_by lines a = record { out = lines ++ a.out; refuses = a.refuses }

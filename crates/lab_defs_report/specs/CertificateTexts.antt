@@ -18,6 +18,7 @@ pub record Certificate : Type 0 where
 
 -- ---- its text
 
+-- a text between quotation marks
 abbrev pub quoted : Bytes → Bytes
 quoted text = 34 ∷ text ++ (34 ∷ [])
 
@@ -47,24 +48,27 @@ abbrev pub json_of : Bytes → Option Data
 json_of bytes = if is_utf8 bytes then read bytes else None
 
 -- a number of 32 bits without a point, an exponent or a sign
-abbrev pub weight_in : Data → Option ℕ
-weight_in d = option_and_then (λ n. if nat_lt n (2 ^ 32) then Some n else None) (option_and_then as_u64 (as_number d))
+abbrev pub weight_read : Data → Option ℕ
+weight_read d = option_and_then (λ n. if nat_lt n (2 ^ 32) then Some n else None) (option_and_then as_u64 (as_number d))
 
-abbrev pub seat_in : Data → Option ℕ
-seat_in d = option_and_then (λ n. if (n == 1) || (n == 2) then Some n else None) (option_and_then as_u64 (as_number d))
+-- the number 1 or 2, without a point, an exponent or a sign
+abbrev pub seat_read : Data → Option ℕ
+seat_read d = option_and_then (λ n. if (n == 1) || (n == 2) then Some n else None) (option_and_then as_u64 (as_number d))
 
 -- a text that is a whole number of at most 2 ^ 100
-abbrev pub bound_in : Data → Option ℤ
-bound_in d = option_and_then (λ w. if is_whole w && nat_le (whole_size w) (2 ^ 100) then Some (whole_value w) else None) (as_str d)
+abbrev pub bound_read : Data → Option ℤ
+bound_read d = option_and_then (λ w. if is_whole w && nat_le (whole_size w) (2 ^ 100) then Some (whole_value w) else None) (as_str d)
 
 -- each item as f reads it, if it reads all
 abbrev pub all_items : {A : Type 0} → (Data → Option A) → Items → Option (List A)
 all_items f no_items = Some []
 all_items f (item d ds) = option_and_then (λ x. option_map (λ xs. x ∷ xs) (all_items f ds)) (f d)
 
+-- an array whose items f all reads
 abbrev pub list_in : {A : Type 0} → (Data → Option A) → Data → Option (List A)
 list_in f d = option_and_then (all_items f) (as_array d)
 
+-- how many keys an object has
 abbrev pub key_count : Members → ℕ
 key_count no_members = 0
 key_count (member k d ms) = key_count ms + 1
@@ -76,9 +80,10 @@ shaped key f d = elim (option_and_then f (get key d)) [ Some x ↦ Ok x | None �
 -- the certificate that an object is, each of its keys there and no other
 abbrev pub certificate_in : Data → Members → Result Certificate CertificateFault
 certificate_in d ms =
-    shaped (codes "bounds") (list_in bound_in) d >>= λ bounds. shaped (codes "seat") seat_in d >>= λ seat. shaped (codes "weights") (list_in weight_in) d >>= λ weights.
+    shaped (codes "bounds") (list_in bound_read) d >>= λ bounds. shaped (codes "seat") seat_read d >>= λ seat. shaped (codes "weights") (list_in weight_read) d >>= λ weights.
     if key_count ms == 3 then Ok (record { seat = seat; weights = weights; bounds = bounds }) else Err (bad_shape (codes "extra"))
 
+-- the certificate that a value is, which has to be an object
 abbrev pub certificate_of : Data → Result Certificate CertificateFault
 certificate_of d = elim (as_object d) [ Some ms ↦ certificate_in d ms | None ↦ Err (bad_shape (codes "whole")) ]
 

@@ -5,15 +5,14 @@ use Rattle.std.specs.Ordering.{is_eq}
 use Rattle.lab_defs_text.specs.Words.{Bytes}
 use Rattle.lab_defs_text.specs.Games.{GameModel}
 use Rattle.lab_defs_text.specs.Texts.{name_of}
-use Rattle.lab_defs_game.specs.Histories.{place_of, inner_histories}
+use Rattle.lab_defs_game.specs.Histories.{place_of, inner_histories, action_names}
 use Rattle.lab_defs_game.specs.Sets.{seen, set_cmp, sets}
-use Rattle.lab_defs_value.specs.Replies.{Strategy, IsTable, strategy_of, other, reply_sets}
+use Rattle.lab_defs_value.specs.Replies.{Strategy, IsTable, strategy_of, reply_sets}
 use Rattle.lab_defs_value.specs.Bounds.{at, through, Holds}
-use Rattle.lab_defs_value.specs.Expectation.{grid_of}
+use Rattle.lab_defs_game.specs.Seats.{grid_of, other}
 use Rattle.lab_defs_game.specs.Forms.{game_actions}
-use Rattle.lab_defs_report.specs.States.{weight_count}
+use Rattle.lab_defs_value.specs.Tables.{weight_count}
 use Rattle.lab_defs_report.specs.CertificateTexts.{Certificate}
-use Rattle.lab_defs_report.specs.Walks.{action_names_at}
 
 -- the strategy of its seat
 abbrev pub certified : GameModel → Certificate → Strategy
@@ -50,6 +49,6 @@ first_broken g c = broken_among (certified g c) (at c.bounds) (range_with_len 0 
 abbrev pub action_name : GameModel → (seat set action : ℕ) → Bytes
 action_name g seat set action =
     elim (find (λ h. is_eq (set_cmp (seen g seat h) (slice_index_or (sets g seat) set []))) (inner_histories g)) [
-      | Some h ↦ name_of (action_names_at seat (place_of g h)) action
+      | Some h ↦ name_of (action_names seat (place_of g h)) action
       | None ↦ []
     ]

@@ -8,6 +8,7 @@ use Rattle.lab_defs_text.specs.Steps.{◌>>=◌}
 use Rattle.lab_defs_text.specs.Reading.{miscounted, one_word, number_at}
 use Rattle.lab_defs_value.specs.Allowances.{Rule, cfrd, margin, reach}
 
+-- a command of a session
 pub data Command : Type 0 where
   expect_uniform : Command
   expect : Command
@@ -52,21 +53,24 @@ rule_at place word =
     if bytes_eq word (codes "cfrd") then Ok cfrd else if bytes_eq word (codes "margin") then Ok margin
     else if bytes_eq word (codes "reach") then Ok reach else Err (bad_word_at place)
 
--- no word more, behind n words and the first
+-- no word more, after n words and the first
 abbrev pub ends_behind : ℕ → List Bytes → Result Bool LineFault
 ends_behind n [] = Ok true
 ends_behind n (w ∷ ws) = Err (bad_word_at (n + 2))
 
--- ---- each command by the words behind its first
+-- ---- each command by the words after its first
 
+-- `expect`, or `expect uniform`
 abbrev pub expect_of : List Bytes → Result Command LineFault
 expect_of [] = Ok expect
 expect_of (w ∷ ws) = if bytes_eq w (codes "uniform") then (ends_behind 1 ws >>= λ x. Ok expect_uniform) else Err (bad_word_at 2)
 
+-- `blueprint solve` with its number of rounds
 abbrev pub solve_of : List Bytes → Result Command LineFault
 solve_of [] = Err (bad_word_at 3)
 solve_of (w ∷ ws) = ends_behind 2 ws >>= λ x. small_at 3 w >>= λ n. Ok (blueprint_solve n)
 
+-- `blueprint uniform`, `blueprint given` or `blueprint solve`
 abbrev pub blueprint_of : List Bytes → Result Command LineFault
 blueprint_of [] = Err (bad_word_at 2)
 blueprint_of (w ∷ ws) =
@@ -74,17 +78,20 @@ blueprint_of (w ∷ ws) =
     else if bytes_eq w (codes "given") then (smalls_at 3 ws >>= λ ns. Ok (blueprint_given ns))
     else if bytes_eq w (codes "solve") then solve_of ws else Err (bad_word_at 2)
 
+-- `bound` with its seat
 abbrev pub bound_of : List Bytes → Result Command LineFault
 bound_of ws = one_word ws >>= λ w. small_at 2 w >>= λ seat. Ok (bound seat)
 
+-- `show` with its seat
 abbrev pub show_of : List Bytes → Result Command LineFault
 show_of ws = one_word ws >>= λ w. small_at 2 w >>= λ seat. Ok (show seat)
 
--- three words, and those behind them
+-- three words, and those after them
 abbrev pub three_and_more : List Bytes → Result (Bytes × Bytes × Bytes × List Bytes) LineFault
 three_and_more (a ∷ b ∷ c ∷ ws) = Ok (a, b, c, ws)
 three_and_more ws = miscounted 3 ws
 
+-- `propose` with its seat, node, rule and weights
 abbrev pub propose_of : List Bytes → Result Command LineFault
 propose_of ws =
     three_and_more ws >>= λ a. small_at 2 a.0 >>= λ seat. small_at 3 a.1 >>= λ node. rule_at 4 a.2 >>= λ rule. smalls_at 5 a.3 >>= λ ns. Ok (propose seat node rule ns)
@@ -94,13 +101,16 @@ abbrev pub four_words : List Bytes → Result (Bytes × Bytes × Bytes × Bytes)
 four_words (a ∷ b ∷ c ∷ d ∷ []) = Ok (a, b, c, d)
 four_words ws = miscounted 4 ws
 
+-- `resolve` with its seat, node, rule and number of rounds
 abbrev pub resolve_of : List Bytes → Result Command LineFault
 resolve_of ws =
     four_words ws >>= λ a. small_at 2 a.0 >>= λ seat. small_at 3 a.1 >>= λ node. rule_at 4 a.2 >>= λ rule. small_at 5 a.3 >>= λ rounds. Ok (resolve seat node rule rounds)
 
+-- `cert` with its seat
 abbrev pub cert_of : List Bytes → Result Command LineFault
 cert_of ws = one_word ws >>= λ w. small_at 2 w >>= λ seat. Ok (cert seat)
 
+-- `deal` with its words to draw with
 abbrev pub deal_of : List Bytes → Result Command LineFault
 deal_of ws = draws_at 2 ws >>= λ ns. Ok (deal ns)
 

@@ -1,4 +1,4 @@
--- The modes that look at a game and what stands behind it: `check`, `print` and `verify`.
+-- The modes that look at a game and what follows it: `check`, `print` and `verify`.
 use Rattle.std.specs.Prelude.{ℕ, ◌+◌, List, [], ◌∷◌, ◌++◌, length, Bool, true, nat_lt, if◌then◌else◌, Option, Some, None, Result, Ok, Err}
 use lib.Chars.{codes}
 use Rattle.lab_defs_text.specs.Words.{Bytes}
@@ -15,10 +15,10 @@ use Rattle.lab_defs_game.specs.Forms.{game_actions}
 use Rattle.lab_defs_text.specs.Fractions.{fraction_text}
 use Rattle.lab_defs_text.specs.Steps.{◌>>=◌}
 use Rattle.std.specs.List.{join_with_byte}
-use Rattle.lab_defs_value.specs.Expectation.{grid_of}
-use Rattle.lab_defs_value.specs.Replies.{other}
+use Rattle.lab_defs_game.specs.Seats.{grid_of, other}
 use Rattle.lab_defs_value.specs.Bounds.{at, bound_units}
-use Rattle.lab_defs_report.specs.States.{SessionFault, weight_count, first_wrong_sum, unless_wrong, counted}
+use Rattle.lab_defs_report.specs.States.{SessionFault, first_wrong_sum, unless_wrong, counted}
+use Rattle.lab_defs_value.specs.Tables.{weight_count}
 use Rattle.lab_defs_report.specs.CertificateTexts.{Certificate, certificate_read}
 use Rattle.lab_defs_report.specs.Certificates.{Broken, first_broken, action_name}
 use Rattle.lab_defs_report.specs.Cuts.{commands_limit, Cut, cut_at, cut_refused, cut_open, goes_on}
@@ -36,6 +36,7 @@ accepted_at line g = elim (unfold_fault g) [
   | None ↦ elim (recall_fault g) [ Some f ↦ Err (refused_recall g line f) | None ↦ Ok g ]
 ]
 
+-- the game of a text that can be played, or its refusal
 abbrev pub playable : Bytes → ℕ → Result GameModel Refusal
 playable text line = elim (read_text text) [ Ok g ↦ accepted_at line g | Err r ↦ Err r ]
 
@@ -44,17 +45,20 @@ abbrev pub game_answer : Bool → ℕ → List Bytes → Result Bytes Refusal �
 game_answer ended line behind (Err r) = refusing r
 game_answer ended line behind (Ok out) = if goes_on behind then refusing (refused (line + 1) (codes "ExtraLine") []) else if ended then answer out else silent
 
+-- the line of `check`
 abbrev pub counts_line : GameModel → Bytes
 counts_line g =
     let c = counts_of g in
     joined (codes "game" ∷ codes "histories" ∷ numeral c.histories ∷ codes "nodes" ∷ numeral c.nodes ∷ codes "sets" ∷ numeral c.sets1 ∷ numeral c.sets2
     ∷ codes "most" ∷ numeral c.most1 ∷ numeral c.most2 ∷ codes "scale" ∷ numeral c.scale ∷ []) ++ (10 ∷ [])
 
+-- what `check` writes for an input cut after its game
 abbrev pub check_cut : Bool → Cut → Answer
 check_cut ended (cut_at text line behind) = game_answer ended line behind (elim (playable text line) [ Ok g ↦ Ok (counts_line g) | Err r ↦ Err r ])
 check_cut ended (cut_refused r) = refusing r
 check_cut ended cut_open = silent
 
+-- what `print` writes for it
 abbrev pub print_cut : Bool → Cut → Answer
 print_cut ended (cut_at text line behind) = game_answer ended line behind (elim (read_text text) [ Ok g ↦ Ok (canonical g) | Err r ↦ Err r ])
 print_cut ended (cut_refused r) = refusing r
@@ -73,20 +77,23 @@ abbrev pub verdict_words : GameModel → Certificate → Option Broken → List 
 verdict_words g c None = codes "yes" ∷ fraction_text (at c.bounds 0) (bound_units g c.seat) ∷ []
 verdict_words g c (Some b) = codes "no" ∷ numeral b.set ∷ action_name g (other c.seat) b.set b.action ∷ fraction_text b.over (bound_units g c.seat) ∷ []
 
+-- what `verify` writes for a certificate: a refusal where it does not fit the game, else whether its bounds hold
 abbrev pub judged_certificate : GameModel → ℕ → Certificate → Answer
 judged_certificate g line c = elim (fitting g c) [
   | Ok x ↦ answer (joined (verdict_words g c (first_broken g c)) ++ (10 ∷ []))
   | Err f ↦ refusing (refused_command line f)
 ]
 
--- a certificate is all that stands behind the game, from a line on
+-- a certificate is all that follows the game, from a line on
 abbrev pub verified : GameModel → ℕ → Bytes → Answer
 verified g line bytes = elim (certificate_read bytes) [ Ok c ↦ judged_certificate g line c | Err f ↦ refusing (refused_certificate line f) ]
 
+-- what `verify` writes for the bytes after a game, within their limit
 abbrev pub verify_behind : Bool → GameModel → ℕ → Bytes → Answer
 verify_behind ended g line bytes =
     if nat_lt commands_limit (length bytes) then refusing (refused line (codes "InputTooLong") []) else if ended then verified g line bytes else silent
 
+-- what `verify` writes for an input cut after its game
 abbrev pub verify_cut : Bool → Cut → Answer
 verify_cut ended (cut_at text line behind) = elim (playable text line) [ Ok g ↦ verify_behind ended g (line + 1) (join_with_byte 10 behind) | Err r ↦ refusing r ]
 verify_cut ended (cut_refused r) = refusing r

@@ -5,7 +5,7 @@ use Rattle.lab_defs_text.specs.Words.{Bytes}
 use Rattle.lab_defs_report.specs.Walks.{drawn}
 use Rattle.lab_defs_report.specs.Reports.{report_of, replies_of}
 
--- the first is the front of the second
+-- the first is a prefix of the second
 abbrev pub IsFront : Bytes → Bytes → Type 0
 IsFront front whole = (rest : Bytes) × (whole ≡ front ++ rest)
 

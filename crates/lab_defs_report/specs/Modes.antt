@@ -9,6 +9,7 @@ use Rattle.lab_defs_report.specs.GameModes.{check_cut, print_cut, verify_cut}
 use Rattle.lab_defs_report.specs.Sessions.{session_cut}
 use Rattle.lab_defs_report.specs.Surveys.{generate_answer, survey_answer}
 
+-- what the program can be asked to do
 pub data Mode : Type 0 where
   session : Mode
   check : Mode
@@ -28,24 +29,26 @@ abbrev pub mode_with : (word kind size : Bytes) → Option Mode
 mode_with w kind size =
     if bytes_eq w (codes "generate") then Some (generate kind size) else if bytes_eq w (codes "survey") then Some (survey kind size) else None
 
+-- the mode that words name: one word, or three
 abbrev pub mode_of : List Bytes → Option Mode
 mode_of (w ∷ []) = mode_named w
 mode_of (w ∷ kind ∷ size ∷ []) = mode_with w kind size
 mode_of _ = None
 
+-- the line that is written for words that are no mode
 abbrev pub usage_line : Bytes
 usage_line = codes "usage: lab session | check | print | verify | generate KIND SIZE | survey KIND SIZE" ++ (10 ∷ [])
 
--- an input cut behind its game
-abbrev pub cut : Bool → Bytes → Cut
-cut ended input = cut_from ended 1 [] (lines input)
+-- an input cut after its game
+abbrev pub input_cut : Bool → Bytes → Cut
+input_cut ended input = cut_from ended 1 [] (lines input)
 
 -- what is written for an input, read to its end or not
 abbrev pub mode_answer : Bool → Bytes → Option Mode → Answer
-mode_answer ended input (Some session) = session_cut ended (cut ended input)
-mode_answer ended input (Some check) = check_cut ended (cut ended input)
-mode_answer ended input (Some print) = print_cut ended (cut ended input)
-mode_answer ended input (Some verify) = verify_cut ended (cut ended input)
+mode_answer ended input (Some session) = session_cut ended (input_cut ended input)
+mode_answer ended input (Some check) = check_cut ended (input_cut ended input)
+mode_answer ended input (Some print) = print_cut ended (input_cut ended input)
+mode_answer ended input (Some verify) = verify_cut ended (input_cut ended input)
 mode_answer ended input (Some (generate kind size)) = generate_answer kind size
 mode_answer ended input (Some (survey kind size)) = survey_answer kind size
 mode_answer ended input None = answer usage_line

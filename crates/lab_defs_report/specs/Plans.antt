@@ -1,4 +1,4 @@
--- Games told by the names of their places and tokens.
+-- Games given by the names of their places and tokens.
 use Rattle.std.specs.Prelude.{ℕ, ◌+◌, ◌==◌, ℤ, pos, negsuc, List, [], ◌∷◌, ◌++◌, length, map, flat_map, position, unwrap_or, if◌then◌else◌}
 use Rattle.std.specs.Ordering.{int_cmp, int_eq}
 use Rattle.std.specs.Str.{bytes_eq}
@@ -45,6 +45,7 @@ pub record Plan : Type 0 where
 abbrev pub nothing : Bytes
 nothing = codes "-"
 
+-- the action of a seat that does not act
 abbrev pub pass : Bytes
 pass = codes "."
 
@@ -74,7 +75,7 @@ turn name seat moves = record {
 abbrev pub dealing : Bytes → List Lead → Scene
 dealing name outcomes = record { name = name; one = pass ∷ []; two = pass ∷ []; rows = outcomes ∷ [] }
 
--- a number inside a name: `m` stands before a negative one
+-- a number inside a name: `m` comes before a negative one
 abbrev pub number_word : ℤ → Bytes
 number_word (pos n) = numeral n
 number_word (negsuc n) = codes "m" ++ numeral (n + 1)
@@ -83,6 +84,7 @@ number_word (negsuc n) = codes "m" ++ numeral (n + 1)
 abbrev pub end_name : ℤ → Bytes
 end_name z = codes "e-" ++ number_word z
 
+-- the payoffs of the ends that outcomes lead to
 abbrev pub payoffs_in : List Lead → List ℤ
 payoffs_in [] = []
 payoffs_in (l ∷ ls) = elim l.next [ to_end z ↦ z ∷ payoffs_in ls | to_world n ↦ payoffs_in ls ]
@@ -93,6 +95,7 @@ finishes_of scenes = map (λ z. record { name = end_name z; payoff = z }) (in_or
 
 -- ---- numbered
 
+-- the number of a name in a list
 abbrev pub number_in : List Bytes → Bytes → ℕ
 number_in names name = unwrap_or (position (bytes_eq name) names) 0
 
@@ -101,6 +104,7 @@ abbrev pub next_number : Plan → Next → ℕ
 next_number p (to_world name) = number_in (map (λ s. s.name) p.scenes) name
 next_number p (to_end z) = length p.scenes + unwrap_or (position (λ f. int_eq f.payoff z) p.finishes) 0
 
+-- an outcome with its names as numbers
 abbrev pub outcome_of_lead : Plan → Lead → Outcome
 outcome_of_lead p l = record {
   weight = l.weight;
@@ -110,6 +114,7 @@ outcome_of_lead p l = record {
   public = number_in p.tokens l.public;
 }
 
+-- a scene with its names as numbers
 abbrev pub place_of_scene : Plan → Scene → Place
 place_of_scene p s = a_world (record { one = s.one; two = s.two; rows = map (map (outcome_of_lead p)) s.rows })
 

@@ -19,21 +19,24 @@ pub record Refusal : Type 0 where
   pub code : Bytes
   pub rest : List Bytes
 
+-- a refusal at a line, by its code and its further words
 abbrev pub refused : ℕ → Bytes → List Bytes → Refusal
 refused line code rest = record { line = line; code = code; rest = rest }
 
--- the line that tells it
+-- its line
 abbrev pub refusal_line : Refusal → Bytes
 refusal_line r = joined (codes "refused" ∷ numeral r.line ∷ r.code ∷ r.rest) ++ (10 ∷ [])
 
 -- ---- of a line
 
+-- the refusal of a word at a line
 abbrev pub refused_lexical : ℕ → LexFault → Refusal
 refused_lexical line (bad_space_at p) = refused line (codes "BadSpace") (numeral p ∷ [])
 refused_lexical line (bad_name_at p) = refused line (codes "BadName") (numeral p ∷ [])
 refused_lexical line (bad_number_at p) = refused line (codes "BadNumber") (numeral p ∷ [])
 refused_lexical line (out_of_range_at p) = refused line (codes "OutOfRange") (numeral p ∷ [])
 
+-- the refusal of a line
 abbrev pub refused_in_line : ℕ → LineFault → Refusal
 refused_in_line line (lexical f) = refused_lexical line f
 refused_in_line line (bad_word_at p) = refused line (codes "BadWord") (numeral p ∷ [])
@@ -45,6 +48,7 @@ refused_in_line line (twice_at p) = refused line (codes "Twice") (numeral p ∷ 
 abbrev pub listed_action : Bytes → (line number : ℕ) → Bytes
 listed_action text line number = slice_index_or (words (slice_index_or (lines text) (line - 1) [])) (number + 1) []
 
+-- the refusal of a text of a game
 abbrev pub refused_text : Bytes → TextFault → Refusal
 refused_text text (cut_short n) = refused n (codes "CutShort") []
 refused_text text (no_newline n) = refused n (codes "NoNewline") []
@@ -57,25 +61,29 @@ refused_text text (no_root n) = refused n (codes "NoRoot") []
 
 -- ---- of a game
 
+-- the word of a scale: `over` where it is past its limit
 abbrev pub scale_word : Option ℕ → Bytes
 scale_word None = codes "over"
 scale_word (Some k) = numeral k
 
+-- the refusal of a game that is not unfolded, at the line of `done`
 abbrev pub refused_unfolding : GameModel → ℕ → UnfoldFault → Refusal
 refused_unfolding g line (too_many_histories depth) = refused line (codes "TooManyHistories") (numeral depth ∷ [])
 refused_unfolding g line (horizon_passed n) = refused line (codes "HorizonPassed") (name_of g.names n ∷ [])
 refused_unfolding g line (size_passed top k n1 n2) = refused line (codes "SizePassed") (numeral top ∷ scale_word k ∷ numeral n1 ∷ numeral n2 ∷ [])
 
--- the name of the world where the history with a number stands
+-- the name of the world where the history with a number leads
 abbrev pub world_name : GameModel → ℕ → Bytes
 world_name g h = name_of g.names (reached g g.root (slice_index_or (histories g) h []))
 
+-- the refusal of a game without perfect recall, at the line of `done`
 abbrev pub refused_recall : GameModel → ℕ → RecallFault → Refusal
 refused_recall g line (legal_differs seat h k) = refused line (codes "LegalDiffers") (numeral seat ∷ world_name g h ∷ world_name g k ∷ [])
 refused_recall g line (forgotten seat h k) = refused line (codes "Forgotten") (numeral seat ∷ world_name g h ∷ world_name g k ∷ [])
 
 -- ---- of a command
 
+-- the refusal of a command that the session does not take, at its line
 abbrev pub refused_command : ℕ → SessionFault → Refusal
 refused_command line no_blueprint = refused line (codes "NoBlueprint") []
 refused_command line second_blueprint = refused line (codes "SecondBlueprint") []
@@ -90,6 +98,7 @@ refused_command line (extra_words used) = refused line (codes "ExtraWords") (num
 
 -- ---- of a certificate
 
+-- the refusal of a certificate, at its line
 abbrev pub refused_certificate : ℕ → CertificateFault → Refusal
 refused_certificate line bad_json = refused line (codes "BadJson") []
 refused_certificate line (bad_shape key) = refused line (codes "BadShape") (key ∷ [])

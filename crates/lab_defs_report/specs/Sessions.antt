@@ -6,7 +6,7 @@ use Rattle.lab_defs_text.specs.Lines.{joined}
 use Rattle.lab_defs_report.specs.Commands.{command_at}
 use Rattle.lab_defs_report.specs.States.{State, step_of}
 use Rattle.lab_defs_report.specs.Cuts.{commands_limit, passed_limit, Cut, cut_at, cut_refused, cut_open}
-use Rattle.lab_defs_report.specs.Answers.{Answer, silent, refusing, following}
+use Rattle.lab_defs_report.specs.Answers.{Answer, silent, refusing, led_by}
 use Rattle.lab_defs_report.specs.Refusals.{Refusal, refused, refused_in_line, refused_command}
 use Rattle.lab_defs_report.specs.GameModes.{playable}
 
@@ -23,7 +23,7 @@ last_answer false n l = silent
 last_answer true n [] = silent
 last_answer true n (c ∷ cs) = refusing (refused n (codes "NoNewline") [])
 
--- the replies to command lines behind the line of `done`, from the one with a number on, `left` bytes being allowed, up to and with the first refusal
+-- the replies to command lines after the line of `done`, from the one with a number on, `left` bytes being allowed, up to and with the first refusal
 abbrev pub session_from : Bool → (done number left : ℕ) → State → List Bytes → Answer
 session_from ended done number left s [] = silent
 session_from ended done number left s (l ∷ []) = elim (passed_limit (codes "InputTooLong") left (length l) 0) [
@@ -34,13 +34,14 @@ session_from ended done number left s (l ∷ m ∷ ms) = elim (passed_limit (cod
   | Some code ↦ refusing (refused (done + number) code [])
   | None ↦ elim (answered (done + number) number s l) [
     | Err r ↦ refusing r
-    | Ok r ↦ following (joined r.1 ++ (10 ∷ [])) (session_from ended done (number + 1) (left - (length l + 1)) r.0 (m ∷ ms))
+    | Ok r ↦ led_by (joined r.1 ++ (10 ∷ [])) (session_from ended done (number + 1) (left - (length l + 1)) r.0 (m ∷ ms))
   ]
 ]
 
+-- what `session` writes for an input cut after its game
 abbrev pub session_cut : Bool → Cut → Answer
 session_cut ended (cut_at text line behind) = elim (playable text line) [
-  | Ok g ↦ session_from ended line 1 commands_limit (record { game = g; plays = None }) behind
+  | Ok g ↦ session_from ended line 1 commands_limit (record { game = g; profile = None }) behind
   | Err r ↦ refusing r
 ]
 session_cut ended (cut_refused r) = refusing r

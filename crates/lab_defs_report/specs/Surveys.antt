@@ -37,6 +37,7 @@ kind_and_size kind size = elim (kind_named kind) [ Some k ↦ with_size k (small
 
 -- ---- the modes
 
+-- what `generate` writes: the text of the game, or a refusal
 abbrev pub generate_answer : Bytes → Bytes → Answer
 generate_answer kind size = elim (kind_and_size kind size) [ Ok k ↦ answer (canonical (generated k.0 k.1)) | Err r ↦ refusing r ]
 
@@ -51,12 +52,13 @@ abbrev pub survey_resolves : GameModel → List Command
 survey_resolves g =
     flat_map (resolves_at g) (filter (λ n. depth (slice_index_or (nodes g) n []) == 2) (range_with_len 0 (length (nodes g))))
 
--- the state behind commands, and how many replies of them began with `accepted` and with another word
+-- the state after commands, and how many replies of them began with `accepted` and with another word
 pub record Surveyed : Type 0 where
   pub state : State
   pub accepted : ℕ
   pub kept : ℕ
 
+-- a survey with one more reply
 abbrev pub with_reply : Surveyed → State → List Bytes → Surveyed
 with_reply s t reply =
     if bytes_eq (slice_index_or reply 0 []) (codes "accepted") then record { state = t; accepted = s.accepted + 1; kept = s.kept }
@@ -67,30 +69,34 @@ abbrev pub surveyed_by : Surveyed → List Command → Surveyed
 surveyed_by s [] = s
 surveyed_by s (c ∷ cs) = elim (step_of s.state c) [ Ok r ↦ surveyed_by (with_reply s r.0 r.1) cs | Err f ↦ s ]
 
+-- words as a line
 abbrev pub line_of : List Bytes → Bytes
 line_of ws = joined ws ++ (10 ∷ [])
 
+-- the bounds of both seats as words
 abbrev pub bound_words : State → List Bytes
-bound_words s = elim s.plays [ Some p ↦ seat_bound s.game p 1 ∷ seat_bound s.game p 2 ∷ [] | None ↦ [] ]
+bound_words s = elim s.profile [ Some p ↦ seat_bound s.game p 1 ∷ seat_bound s.game p 2 ∷ [] | None ↦ [] ]
 
+-- the counts of a game as words
 abbrev pub counted_words : GameModel → List Bytes
 counted_words g =
     let c = counts_of g in
     codes "histories" ∷ numeral c.histories ∷ codes "nodes" ∷ numeral c.nodes ∷ codes "sets" ∷ numeral c.sets1 ∷ numeral c.sets2 ∷ []
 
--- a solved blueprint, and the bounds before and behind the re-solves
+-- a solved blueprint, and the bounds before and after the re-solves
 abbrev pub survey_lines : Bytes → ℕ → GameModel → State → Surveyed → Bytes
 survey_lines kind size g solved s =
     line_of (codes "survey" ∷ kind ∷ numeral size ∷ counted_words g) ++ (line_of (codes "blueprint" ∷ bound_words solved)
     ++ (line_of (codes "accepted" ∷ numeral s.accepted ∷ codes "kept" ∷ numeral s.kept ∷ []) ++ line_of (codes "final" ∷ bound_words s.state)))
 
--- the state behind one command
+-- the state after one command
 abbrev pub state_behind : State → Command → State
 state_behind s c = elim (step_of s c) [ Ok r ↦ r.0 | Err f ↦ s ]
 
+-- what `survey` writes of a game
 abbrev pub survey_game : Bytes → ℕ → GameModel → Answer
 survey_game kind size g =
-    let solved = state_behind (record { game = g; plays = None }) (blueprint_solve 64) in
+    let solved = state_behind (record { game = g; profile = None }) (blueprint_solve 64) in
     answer (survey_lines kind size g solved (surveyed_by (record { state = solved; accepted = 0; kept = 0 }) (survey_resolves g)))
 
 -- a game that can be played, its faults being those of line 0
@@ -98,5 +104,6 @@ abbrev pub survey_accepted : Bytes → ℕ → Result GameModel Refusal → Answ
 survey_accepted kind size (Ok g) = survey_game kind size g
 survey_accepted kind size (Err r) = refusing r
 
+-- what `survey` writes: four lines, or a refusal
 abbrev pub survey_answer : Bytes → Bytes → Answer
 survey_answer kind size = elim (kind_and_size kind size) [ Ok k ↦ survey_accepted kind k.1 (accepted_at 0 (generated k.0 k.1)) | Err r ↦ refusing r ]

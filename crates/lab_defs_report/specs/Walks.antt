@@ -1,12 +1,11 @@
 -- Walks through a game, by words of 64 bits that are drawn with.
-use Rattle.std.specs.Prelude.{ℕ, zero, suc, ◌==◌, ◌+◌, ◌-◌, ◌*◌, ◌/◌, ◌^◌, ℤ, pos, ◌+ℤ◌, List, [], ◌∷◌, ◌++◌, length, map, take, drop, slice_index, nat_le, nat_lt, if◌then◌else◌, Result, Ok, Err}
+use Rattle.std.specs.Prelude.{ℕ, zero, suc, ◌+◌, ◌-◌, ◌*◌, ◌/◌, ◌^◌, ℤ, pos, ◌+ℤ◌, List, [], ◌∷◌, ◌++◌, length, map, take, drop, slice_index, nat_le, nat_lt, if◌then◌else◌, Result, Ok, Err}
 use Rattle.rand_core.specs.Stream.{Stream, next_u64}
 use Rattle.rand_core.specs.Steps.{stream_of, steps_u64_low}
 use Rattle.rand_core.specs.Pcg32Seed.{pcg32_seed}
 use Rattle.rand_pcg.specs.Pcg.{pcg64, pcg64_of_seed}
 use Rattle.lab_math.specs.Sums.{sum_over}
-use Rattle.lab_defs_text.specs.Games.{GameModel, Place, a_world, an_end}
-use Rattle.lab_defs_text.specs.Words.{Bytes}
+use Rattle.lab_defs_text.specs.Games.{GameModel}
 use Rattle.lab_defs_text.specs.Texts.{is_world}
 use Rattle.lab_defs_text.specs.Steps.{◌>>=◌}
 use Rattle.lab_defs_game.specs.Histories.{History, row_of, place_of, payoff}
@@ -45,14 +44,9 @@ chosen weights ws = if nat_le 2 (length weights) then drawn_next weights ws.left
 abbrev pub weights_at : (actions table : List ℕ) → ℕ → List ℕ
 weights_at actions table set = if decides actions set then take (slice_index actions set) (drop (first_weight actions set) table) else []
 
--- the weights of a seat's actions where a history stands
+-- the weights of a seat's actions where a history leads
 abbrev pub weights_on : GameModel → ℕ → List ℕ → History → List ℕ
 weights_on g seat table h = weights_at (game_actions g seat) table (set_number g seat (seen g seat h))
-
--- the names of a seat's actions at a place
-abbrev pub action_names_at : ℕ → Place → List Bytes
-action_names_at seat (a_world w) = if seat == 1 then w.one else w.two
-action_names_at seat (an_end z) = []
 
 -- one step: seat 1 draws, then seat 2, then chance
 abbrev pub walked_on : GameModel → (table1 table2 : List ℕ) → History → Words → Result (History × Words) ℕ
@@ -66,7 +60,7 @@ walk_within zero g table1 table2 h ws = Ok (h, ws)
 walk_within (suc n) g table1 table2 h ws =
     if is_world (place_of g h) then (walked_on g table1 table2 h ws >>= λ r. walk_within n g table1 table2 r.0 r.1) else Ok (h, ws)
 
--- the walk from the root to an end, and the words behind it; or how many words are needed
+-- the walk from the root to an end, and the words after it; or how many words are needed
 abbrev pub walk : GameModel → (table1 table2 words : List ℕ) → Result (History × Words) ℕ
 walk g table1 table2 words = walk_within g.horizon g table1 table2 [] (record { left = words; used = 0 })
 
@@ -77,12 +71,12 @@ abbrev pub next_words : ℕ → Stream → List ℕ
 next_words zero s = []
 next_words (suc n) s = (next_u64 s).0 ∷ next_words n (next_u64 s).1
 
--- the stream behind n words
+-- the stream after n words
 abbrev pub behind_words : ℕ → Stream → Stream
 behind_words zero s = s
 behind_words (suc n) s = behind_words n (next_u64 s).1
 
--- what a walk pays, and the stream behind it
+-- what a walk pays, and the stream after it
 abbrev pub walk_pays : GameModel → Stream → Result (History × Words) ℕ → ℤ × Stream
 walk_pays g s (Ok r) = (payoff g r.0, behind_words r.1.used s)
 walk_pays g s (Err needed) = (pos 0, s)

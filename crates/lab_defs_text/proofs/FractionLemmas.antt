@@ -10,6 +10,7 @@ use Rattle.std.specs.Fmt.{decimal, signed_decimal}
 use Rattle.lab_defs_text.proofs.NumeralLemmas.{numeral_is, signed_numeral_is}
 use Rattle.lab_defs_text.specs.Numbers.{signed_of, numeral}
 use Rattle.lab_defs_text.specs.Fractions.{lowest_num, lowest_den, quotient_text}
+use Rattle.lab_defs_text.specs.Laws.{LowestLaw}
 
 -- a number with a sign times one without has the sign
 pub signed_of-times : (b : Bool) (n m : ℕ) → signed_of b n *ℤ pos m ≡ signed_of b (n * m)
@@ -51,6 +52,10 @@ lowest_is num den some =
 -- the denominator in lowest terms is at least 1
 pub lowest_den_pos : (num : ℤ) (den : ℕ) → 0 < den → 0 < lowest_den num den
 lowest_den_pos num den some = quotient_pos den (gcd (unsigned_abs num) den) some (gcd_is (unsigned_abs num) den).1
+
+-- the law of lowest terms
+pub lowest_law : LowestLaw
+lowest_law num den some = (lowest_same num den, lowest_is num den some, lowest_den_pos num den some)
 
 -- lowest terms are no larger
 pub lowest_num_le : (num : ℤ) (den : ℕ) → unsigned_abs (lowest_num num den) ≤ unsigned_abs num

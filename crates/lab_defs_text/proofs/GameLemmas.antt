@@ -98,16 +98,16 @@ name_of_is_name ns k e h = and_at (list_all is_name) is_name refl (λ _ _. refl)
 name_word : (ns : List Bytes) (k : ℕ) → are_names ns ≡ true → k < length ns → is_word (name_of ns k) ≡ true
 name_word ns k e h = name_is_word (name_of ns k) (name_of_is_name ns k (names_fine ns e).names h)
 
--- a number within limits is below 2 ^ 63
-pub within_small : (lo hi n : ℕ) → is_within lo hi n ≡ true → hi < 2 ^ 63 → n < 2 ^ 63
+-- a number within limits is below 10 ^ 40
+pub within_small : (lo hi n : ℕ) → is_within lo hi n ≡ true → hi < 10 ^ 40 → n < 10 ^ 40
 within_small lo hi n e h = let le = leb-true n hi (and_parts (nat_le lo n) (nat_le n hi) e).1 in omega arith
 
 -- the order of integers by the test
 int_le_true : (a b : ℤ) → int_le a b ≡ true → a ≤ℤ b
 int_le_true a b e = grind (arith, ints)
 
--- payoffs have a size below 2 ^ 63
-pub payoff_small : (z : ℤ) → is_payoff z ≡ true → unsigned_abs z < 2 ^ 63
+-- payoffs have a size below 10 ^ 40
+pub payoff_small : (z : ℤ) → is_payoff z ≡ true → unsigned_abs z < 10 ^ 40
 payoff_small z e =
     let a = and_parts (int_le (neg_ℤ (pos 1048576)) z) (int_le z (pos 1048576)) e in
     let b = int_le_true (neg_ℤ (pos 1048576)) z a.0 in

@@ -1,4 +1,5 @@
 pub mod DigitLemmas
+pub mod DecimalLemmas
 pub mod FractionLemmas
 pub mod NameLemmas
 pub mod GameLemmas

@@ -11,7 +11,7 @@ use Rattle.lab_defs_text.specs.Words.{Bytes, apart_after}
 use Rattle.lab_defs_text.specs.Games.{GameModel, Place, a_world, an_end, World, Outcome}
 use Rattle.lab_defs_text.specs.Texts.{name_of, outcome_ok, row_ok, place_ok, game_ok, IsOrderOf, AreOrders, one_of, numbers_apart}
 use Rattle.lab_defs_text.specs.Drafts.{Draft, place_name}
-use Rattle.lab_defs_text.specs.Assembly.{or_fault, number_of, known, known_outcome, KnownRow, KnownPlace, known_world, known_end, known_row, known_place, PlacedRow, taken, action_of, place_rows, PlacedPlace, placed_world, placed_end, placed, row_of, row_at, ordered, is_world_at, assembled}
+use Rattle.lab_defs_text.specs.Assembly.{or_fault, name_number, known, known_outcome, KnownRow, KnownPlace, known_world, known_end, known_row, known_place, PlacedRow, taken, action_of, place_rows, PlacedPlace, placed_world, placed_end, placed, row_numbered, row_at, ordered, is_world_at, assembled}
 use Rattle.lab_defs_text.proofs.PositionLemmas.{name_position}
 use Rattle.lab_defs_text.proofs.GameLemmas.{names_fine, game_fine, WorldFine, world_fine, outcome_fine, root_below}
 use Rattle.lab_defs_text.proofs.LeadLemmas.{after, part_outcomes, row_at_number, first_of, second_of, part_rows, part_place, part_places, place_after, part_place_name, IsDraftOf}
@@ -79,7 +79,7 @@ placed_push w [] k = refl
 placed_push w (i ∷ is) k = ap (λ (ps : List PlacedRow). placed_row w i ∷ ps) (placed_push w is k)
 
 -- two numbers that are found
-both_found : (one two : List Bytes) (r : KnownRow) (i j k : ℕ) → number_of one r.first ≡ Some i → number_of two r.second ≡ Some j → i * length two + j ≡ k → action_of one two r ≡ Ok k
+both_found : (one two : List Bytes) (r : KnownRow) (i j k : ℕ) → name_number one r.first ≡ Some i → name_number two r.second ≡ Some j → i * length two + j ≡ k → action_of one two r ≡ Ok k
 both_found one two r i j k p q s = rw (p, q, s) refl
 
 -- the joint action of row k has the number k
@@ -115,7 +115,7 @@ abbrev the_row : World → ℕ → Option (List Outcome)
 the_row w k = Some (row_at_number w k)
 
 -- the row of a number that stands in an order
-row_back : (w : World) (k : ℕ) (ks : List ℕ) → one_of ks k ≡ true → row_of k (placed_rows w ks) ≡ the_row w k
+row_back : (w : World) (k : ℕ) (ks : List ℕ) → one_of ks k ≡ true → row_numbered k (placed_rows w ks) ≡ the_row w k
 row_back w k [] e = absurd cc
 row_back w k (i ∷ is) e = elim (cases_Bool (eqb i k)) [
   | inl t ↦ rw t (ap (λ (j : ℕ). the_row w j) (eqb-true i k t))
@@ -123,12 +123,12 @@ row_back w k (i ∷ is) e = elim (cases_Bool (eqb i k)) [
 ]
 
 -- the rows from number i on, in order
-suffix_made : (w : World) (line m i : ℕ) (ks : List ℕ) (rows : List (List Outcome)) → ((j : ℕ) → j < length rows → row_of (i + j) (placed_rows w ks) ≡ Some (slice_index_or rows j []))
+suffix_made : (w : World) (line m i : ℕ) (ks : List ℕ) (rows : List (List Outcome)) → ((j : ℕ) → j < length rows → row_numbered (i + j) (placed_rows w ks) ≡ Some (slice_index_or rows j []))
     → each (row_at line m (placed_rows w ks)) (range_with_len i (length rows)) ≡ Ok rows
 suffix_made w line m i ks [] h = refl
 suffix_made w line m i ks (r ∷ rs) h =
-    let first : row_of i (placed_rows w ks) ≡ Some r = subst (λ (n : ℕ). row_of n (placed_rows w ks) ≡ Some r) (omega arith) (h 0 (omega arith)) in
-    let others = suffix_made w line m (i + 1) ks rs (λ j lt. subst (λ (n : ℕ). row_of n (placed_rows w ks) ≡ Some (slice_index_or rs j [])) (omega arith) (h (suc j) (omega arith))) in
+    let first : row_numbered i (placed_rows w ks) ≡ Some r = subst (λ (n : ℕ). row_numbered n (placed_rows w ks) ≡ Some r) (omega arith) (h 0 (omega arith)) in
+    let others = suffix_made w line m (i + 1) ks rs (λ j lt. subst (λ (n : ℕ). row_numbered n (placed_rows w ks) ≡ Some (slice_index_or rs j [])) (omega arith) (h (suc j) (omega arith))) in
     rw (first, others) refl
 
 -- ---- places
@@ -167,7 +167,7 @@ place_placed g n (an_end z) ks e o = refl
 place_ordered : (g : GameModel) (n : ℕ) (p : Place) (ks : List ℕ) → place_ok g p ≡ true → IsOrderOf p ks → ordered (placed_of n p ks) ≡ Ok p
 place_ordered g n (a_world w) ks e o =
     let v = world_fine g w e in
-    let r = suffix_made w n (length w.two) 0 ks w.rows (λ j lt. subst (λ (m : ℕ). row_of m (placed_rows w ks) ≡ Some (slice_index_or w.rows j [])) (omega arith) (row_back w j ks (o.whole j lt))) in
+    let r = suffix_made w n (length w.two) 0 ks w.rows (λ j lt. subst (λ (m : ℕ). row_numbered m (placed_rows w ks) ≡ Some (slice_index_or w.rows j [])) (omega arith) (row_back w j ks (o.whole j lt))) in
     let r1 : each (row_at n (length w.two) (placed_rows w ks)) (range_with_len 0 (length w.one * length w.two)) ≡ Ok w.rows = subst (λ (m : ℕ). each (row_at n (length w.two) (placed_rows w ks)) (range_with_len 0 m) ≡ Ok w.rows) v.count r in
     rw r1 refl
 place_ordered g n (an_end z) ks e o = refl

@@ -15,7 +15,7 @@ use Rattle.lab_defs_text.specs.Words.{Bytes, words, first_empty, is_name}
 use Rattle.lab_defs_text.specs.Numbers.{is_whole, whole_value, numeral, signed_numeral}
 use Rattle.lab_defs_text.specs.Games.{Recall, by_acts, by_seen}
 use Rattle.lab_defs_text.specs.Lines.{Line, head_line, grid_line, horizon_line, memory_line, token_line, world_line, one_line, two_line, row_line, to_line, end_line, root_line, done_line, recall_word, words_of, bytes_of}
-use Rattle.lab_defs_text.specs.Reading.{Kind, start_kind, head_kind, grid_kind, horizon_kind, memory_kind, token_kind, world_kind, one_kind, two_kind, row_kind, to_kind, end_kind, root_kind, done_kind, kind_of, keyword, followers, kind_among, no_words, one_word, two_words, five_words, some_words, fixed_at, recall_at, name_at, names_at, whole_at, number_at, payoff_at, rest_at, of_kind, words_at, line_at}
+use Rattle.lab_defs_text.specs.Reading.{Kind, start_kind, head_kind, grid_kind, horizon_kind, memory_kind, token_kind, world_kind, one_kind, two_kind, row_kind, to_kind, end_kind, root_kind, done_kind, kind_of, keyword, next_kinds, kind_among, no_words, one_word, two_words, five_words, some_words, fixed_at, recall_at, name_at, names_at, whole_at, number_at, payoff_word, rest_at, of_kind, words_at, line_at}
 use Rattle.lab_defs_text.specs.Texts.{is_within, is_payoff}
 use Rattle.lab_defs_text.proofs.StepLemmas.{bind_ok, passed, ok_is, ok_carries, some_is}
 use Rattle.lab_defs_text.proofs.SplitLemmas.{bytes_eq_is, bytes_eq_refl, is_word, are_words, has_words, name_is_word, names_are_words, no_feed, joined_no_feed, words_line}
@@ -78,7 +78,7 @@ same_kind j k = bytes_eq (keyword j) (keyword k)
 
 -- whether a kind is among those that may follow
 abbrev pub may_follow : Kind → Kind → Bool
-may_follow last k = list_any (λ j. same_kind j k) (followers last)
+may_follow last k = list_any (λ j. same_kind j k) (next_kinds last)
 
 -- ---- words read
 
@@ -116,14 +116,14 @@ whole_read p lo hi w z e =
     (a.0, subst (λ (x : ℤ). (int_le lo x && int_le x hi) ≡ true) c b.0, c)
 
 -- a payoff that is read
-payoff_read : (p : ℕ) (w : Bytes) (z : ℤ) → payoff_at p w ≡ Ok z → (w ≡ signed_numeral z) × (is_payoff z ≡ true)
+payoff_read : (p : ℕ) (w : Bytes) (z : ℤ) → payoff_word p w ≡ Ok z → (w ≡ signed_numeral z) × (is_payoff z ≡ true)
 payoff_read p w z e =
     let a = whole_read p (neg_ℤ (pos 1048576)) (pos 1048576) w z e in
-    let small : unsigned_abs (whole_value w) < 2 ^ 63 = rw a.2 (payoff_small z a.1) in
+    let small : unsigned_abs (whole_value w) < 10 ^ 40 = rw a.2 (payoff_small z a.1) in
     (sym (signed_is w a.0 small) ∙ ap signed_numeral a.2, a.1)
 
 -- a payoff is read again
-payoff_again : (p : ℕ) (z : ℤ) → is_payoff z ≡ true → payoff_at p (signed_numeral z) ≡ Ok z
+payoff_again : (p : ℕ) (z : ℤ) → is_payoff z ≡ true → payoff_word p (signed_numeral z) ≡ Ok z
 payoff_again p z e = let a = signed_again z (payoff_small z e) in rw (a.0, a.1, e) refl
 
 -- the order of natural numbers as integers
@@ -135,24 +135,24 @@ pos_le_pos : (a b : ℕ) → int_le (pos a) (pos b) ≡ true → nat_le a b ≡ 
 pos_le_pos a b e = grind (arith, nat_tests, ints)
 
 -- a natural number within limits by its word
-number_of_whole : (lo hi : ℕ) (w : Bytes) (z : ℤ) (x : ℕ) → hi < 2 ^ 63 → is_whole w ≡ true → (int_le (pos lo) z && int_le z (pos hi)) ≡ true → whole_value w ≡ z → unsigned_abs z ≡ x → (w ≡ numeral x) × (is_within lo hi x ≡ true)
+number_of_whole : (lo hi : ℕ) (w : Bytes) (z : ℤ) (x : ℕ) → hi < 10 ^ 40 → is_whole w ≡ true → (int_le (pos lo) z && int_le z (pos hi)) ≡ true → whole_value w ≡ z → unsigned_abs z ≡ x → (w ≡ numeral x) × (is_within lo hi x ≡ true)
 number_of_whole lo hi w (pos y) x small e r v same =
     let a = and_parts (int_le (pos lo) (pos y)) (int_le (pos y) (pos hi)) r in
     let t = and_from (nat_le lo y) (nat_le y hi) (pos_le_pos lo y a.0) (pos_le_pos y hi a.1) in
     let le = leb-true y hi (pos_le_pos y hi a.1) in
-    let lt : unsigned_abs (whole_value w) < 2 ^ 63 = rw v (omega arith) in
+    let lt : unsigned_abs (whole_value w) < 10 ^ 40 = rw v (omega arith) in
     (sym (signed_is w e lt) ∙ ap signed_numeral v ∙ ap numeral same, subst (λ (k : ℕ). is_within lo hi k ≡ true) same t)
 number_of_whole lo hi w (negsuc y) x small e r v same = absurd cc
 
 -- a natural number that is read
-number_read : (p lo hi : ℕ) (w : Bytes) (x : ℕ) → hi < 2 ^ 63 → number_at p lo hi w ≡ Ok x → (w ≡ numeral x) × (is_within lo hi x ≡ true)
+number_read : (p lo hi : ℕ) (w : Bytes) (x : ℕ) → hi < 10 ^ 40 → number_at p lo hi w ≡ Ok x → (w ≡ numeral x) × (is_within lo hi x ≡ true)
 number_read p lo hi w x small e =
     let a = bind_ok (whole_at p (pos lo) (pos hi) w) (λ z. Ok (unsigned_abs z)) x e in
     let b = whole_read p (pos lo) (pos hi) w a.0 a.1 in
     number_of_whole lo hi w a.0 x small b.0 b.1 b.2 (ok_is (unsigned_abs a.0) x a.2)
 
 -- a natural number is read again
-number_again : (p lo hi x : ℕ) → hi < 2 ^ 63 → is_within lo hi x ≡ true → number_at p lo hi (numeral x) ≡ Ok x
+number_again : (p lo hi x : ℕ) → hi < 10 ^ 40 → is_within lo hi x ≡ true → number_at p lo hi (numeral x) ≡ Ok x
 number_again p lo hi x small e =
     let h = and_parts (nat_le lo x) (nat_le x hi) e in
     let le = leb-true x hi h.1 in
@@ -306,10 +306,10 @@ row_read ws l e =
 -- the line of an end
 end_read : (ws : List Bytes) (l : Line) → rest_at end_kind ws ≡ Ok l → SpellsRest end_kind ws l
 end_read ws l e =
-    let c = bind_ok (two_words ws) (λ a. name_at 2 a.0 >>= λ n. payoff_at 3 a.1 >>= λ z. Ok (end_line n z)) l e in
+    let c = bind_ok (two_words ws) (λ a. name_at 2 a.0 >>= λ n. payoff_word 3 a.1 >>= λ z. Ok (end_line n z)) l e in
     let t = c.0 in
-    let x = bind_ok (name_at 2 t.0) (λ n. payoff_at 3 t.1 >>= λ z. Ok (end_line n z)) l c.2 in
-    let y = bind_ok (payoff_at 3 t.1) (λ z. Ok (end_line x.0 z)) l x.2 in
+    let x = bind_ok (name_at 2 t.0) (λ n. payoff_word 3 t.1 >>= λ z. Ok (end_line n z)) l c.2 in
+    let y = bind_ok (payoff_word 3 t.1) (λ z. Ok (end_line x.0 z)) l x.2 in
     let p = name_read 2 t.0 x.0 x.1 in
     let q = payoff_read 3 t.1 y.0 y.1 in
     made end_kind ws (end_line x.0 y.0) l y.2 (two_is ws t c.1 ∙ two_same t.0 x.0 t.1 (signed_numeral y.0) p.0 q.0) (and_from (is_name x.0) (is_payoff y.0) p.1 q.1) refl
@@ -457,10 +457,10 @@ words_same : (w x : Bytes) (ws xs : List Bytes) → w ≡ x → ws ≡ xs → w 
 words_same w x ws xs p q = cc
 
 -- words whose first one has a kind
-kind_read : (last : Kind) (w : Bytes) (ws : List Bytes) (l : Line) (k : Option Kind) → kind_among (followers last) w ≡ k → of_kind k ws ≡ Ok l → SpellsLine last (w ∷ ws) l
+kind_read : (last : Kind) (w : Bytes) (ws : List Bytes) (l : Line) (k : Option Kind) → kind_among (next_kinds last) w ≡ k → of_kind k ws ≡ Ok l → SpellsLine last (w ∷ ws) l
 kind_read last w ws l None f e = absurd cc
 kind_read last w ws l (Some k) f e =
-    let a = among_read k (followers last) w f in
+    let a = among_read k (next_kinds last) w f in
     let r = rest_read k ws l e in
     record {
       words = words_same w (keyword (kind_of l)) ws (rest_of l) (a.word ∙ ap keyword r.kind) r.words ∙ sym (words_by_kind l);
@@ -471,7 +471,7 @@ kind_read last w ws l (Some k) f e =
 -- words that are read are those of a line that may follow
 words_read : (last : Kind) (ws : List Bytes) (l : Line) → words_at last ws ≡ Ok l → SpellsLine last ws l
 words_read last [] l e = absurd cc
-words_read last (w ∷ ws) l e = kind_read last w ws l (kind_among (followers last) w) refl e
+words_read last (w ∷ ws) l e = kind_read last w ws l (kind_among (next_kinds last) w) refl e
 
 -- bytes that are read are those of a line that may follow
 pub line_read : (last : Kind) (bytes : Bytes) (l : Line) → line_at last bytes ≡ Ok l → IsLineOf last bytes l
@@ -491,7 +491,7 @@ name_word : (n : Bytes) → is_name n ≡ true → are_words (n ∷ []) ≡ true
 name_word n e = and_from (is_word n) true (name_is_word n e) refl
 
 -- one number is one word
-number_word : (lo hi n : ℕ) → is_within lo hi n ≡ true → hi < 2 ^ 63 → are_words (numeral n ∷ []) ≡ true
+number_word : (lo hi n : ℕ) → is_within lo hi n ≡ true → hi < 10 ^ 40 → are_words (numeral n ∷ []) ≡ true
 number_word lo hi n e h = and_from (is_word (numeral n)) true (numeral_is_word n (within_small lo hi n e h)) refl
 
 -- a word before words
@@ -536,5 +536,5 @@ at_words last vs ws l same none e = rw (same, none) e
 pub line_again : (last : Kind) (l : Line) → is_line l ≡ true → may_follow last (kind_of l) ≡ true → line_at last (bytes_of l) ≡ Ok l
 line_again last l e f =
     let h = line_words l e in
-    let by_kind : words_at last (keyword (kind_of l) ∷ rest_of l) ≡ Ok l = rw (among_again (kind_of l) (followers last) f) (rest_again l e) in
+    let by_kind : words_at last (keyword (kind_of l) ∷ rest_of l) ≡ Ok l = rw (among_again (kind_of l) (next_kinds last) f) (rest_again l e) in
     at_words last (words (bytes_of l)) (words_of l) l (words_line l h) (none_empty 1 (words_of l) h) (ap (words_at last) (words_by_kind l) ∙ by_kind)

@@ -16,7 +16,7 @@ use Rattle.lab_defs_text.specs.Lines.{Line, world_line, one_line, two_line, row_
 use Rattle.lab_defs_text.specs.Texts.{name_of, outcome_lines, row_lines, place_lines, places_lines, game_lines, is_within, outcome_ok, row_ok, place_ok, game_ok, one_of, numbers_apart, IsOrderOf, AreOrders}
 use Rattle.lab_defs_text.specs.Reading.{done_kind}
 use Rattle.lab_defs_text.specs.Drafts.{Draft, PartPlace, part_world, part_end, PartWorld, PartRow, PartOutcome, place_name}
-use Rattle.lab_defs_text.specs.Assembly.{or_fault, number_of, known, known_outcome, KnownRow, KnownPlace, known_world, known_end, known_row, known_place, PlacedRow, taken, unless_taken, action_of, place_rows, PlacedPlace, placed_world, placed_end, placed, row_of, row_at, ordered, is_world_at, assembled}
+use Rattle.lab_defs_text.specs.Assembly.{or_fault, name_number, known, known_outcome, KnownRow, KnownPlace, known_world, known_end, known_row, known_place, PlacedRow, taken, unless_taken, action_of, place_rows, PlacedPlace, placed_world, placed_end, placed, row_numbered, row_at, ordered, is_world_at, assembled}
 use Rattle.lab_defs_text.proofs.StepLemmas.{bind_ok, passed, ok_is, ok_carries, ok_carried, some_is}
 use Rattle.lab_defs_text.proofs.SplitLemmas.{bytes_eq_is}
 use Rattle.lab_defs_text.specs.Parts.{part_ok, part_row_ok, part_outcome_ok}
@@ -54,7 +54,7 @@ found None e x q = absurd cc
 found (Some y) e x q = cc
 
 -- a number among names
-number_is : (ns : List Bytes) (n : Bytes) (k : ℕ) → number_of ns n ≡ Some k → IsKnown ns n k
+number_is : (ns : List Bytes) (n : Bytes) (k : ℕ) → name_number ns n ≡ Some k → IsKnown ns n k
 number_is ns n k e =
     let r = position_is ns n 0 k (sym (position_from-zero (bytes_eq n) ns) ∙ e) in
     let same : r.number ≡ k = omega (arith, r.at) in
@@ -62,7 +62,7 @@ number_is ns n k e =
 
 -- a name that is known
 known_is : (ns : List Bytes) (line place : ℕ) (n : Bytes) (k : ℕ) → known ns line place n ≡ Ok k → IsKnown ns n k
-known_is ns line place n k e = number_is ns n k (found (number_of ns n) (unknown_name line place) k e)
+known_is ns line place n k e = number_is ns n k (found (name_number ns n) (unknown_name line place) k e)
 
 -- ---- outcomes
 
@@ -173,10 +173,10 @@ pair_is one two first second i j x y =
 -- a joint action that is found
 action_is : (one two : List Bytes) (r : KnownRow) (k : ℕ) → action_of one two r ≡ Ok k → IsAction one two r.first r.second k
 action_is one two r k e =
-    let a = bind_ok (or_fault (extra_row r.line) (number_of one r.first)) (λ i. or_fault (extra_row r.line) (number_of two r.second) >>= λ j. Ok (i * length two + j)) k e in
-    let b = bind_ok (or_fault (extra_row r.line) (number_of two r.second)) (λ j. Ok (a.0 * length two + j)) k a.2 in
-    let x = number_is one r.first a.0 (found (number_of one r.first) (extra_row r.line) a.0 a.1) in
-    let y = number_is two r.second b.0 (found (number_of two r.second) (extra_row r.line) b.0 b.1) in
+    let a = bind_ok (or_fault (extra_row r.line) (name_number one r.first)) (λ i. or_fault (extra_row r.line) (name_number two r.second) >>= λ j. Ok (i * length two + j)) k e in
+    let b = bind_ok (or_fault (extra_row r.line) (name_number two r.second)) (λ j. Ok (a.0 * length two + j)) k a.2 in
+    let x = number_is one r.first a.0 (found (name_number one r.first) (extra_row r.line) a.0 a.1) in
+    let y = number_is two r.second b.0 (found (name_number two r.second) (extra_row r.line) b.0 b.1) in
     ok_carries (λ (n : ℕ). IsAction one two r.first r.second n) (a.0 * length two + b.0) k b.2 (pair_is one two r.first r.second a.0 b.0 x y)
 
 -- the lines of a row and others, with names for names
@@ -230,13 +230,13 @@ rows_are g one two before (r ∷ rs) krs ps f e q =
 -- the rows from number i on
 record RowsFound (i n : ℕ) (all : List PlacedRow) (rows : List (List Outcome)) : Type 0 where
   pub len : length rows ≡ n
-  pub each_one : (j : ℕ) → j < n → row_of (i + j) all ≡ Some (slice_index_or rows j [])
+  pub each_one : (j : ℕ) → j < n → row_numbered (i + j) all ≡ Some (slice_index_or rows j [])
 
 -- one row and others
-found_each : (i n : ℕ) (all : List PlacedRow) (r : List Outcome) (rs : List (List Outcome)) → row_of i all ≡ Some r → ((j : ℕ) → j < n → row_of (i + 1 + j) all ≡ Some (slice_index_or rs j []))
-    → (j : ℕ) → j < suc n → row_of (i + j) all ≡ Some (slice_index_or (r ∷ rs) j [])
-found_each i n all r rs e h zero lt = subst (λ (m : ℕ). row_of m all ≡ Some r) (omega arith) e
-found_each i n all r rs e h (suc j) lt = subst (λ (m : ℕ). row_of m all ≡ Some (slice_index_or rs j [])) (omega arith) (h j (omega arith))
+found_each : (i n : ℕ) (all : List PlacedRow) (r : List Outcome) (rs : List (List Outcome)) → row_numbered i all ≡ Some r → ((j : ℕ) → j < n → row_numbered (i + 1 + j) all ≡ Some (slice_index_or rs j []))
+    → (j : ℕ) → j < suc n → row_numbered (i + j) all ≡ Some (slice_index_or (r ∷ rs) j [])
+found_each i n all r rs e h zero lt = subst (λ (m : ℕ). row_numbered m all ≡ Some r) (omega arith) e
+found_each i n all r rs e h (suc j) lt = subst (λ (m : ℕ). row_numbered m all ≡ Some (slice_index_or rs j [])) (omega arith) (h j (omega arith))
 
 -- rows that are found
 rows_found : (line m i n : ℕ) (all : List PlacedRow) (rows : List (List Outcome)) → each (row_at line m all) (range_with_len i n) ≡ Ok rows → RowsFound i n all rows
@@ -245,17 +245,17 @@ rows_found line m i (suc n) all rows e =
     let a = bind_ok (row_at line m all i) (λ y. each (row_at line m all) (range_with_len (i + 1) n) >>= λ ys. Ok (y ∷ ys)) rows e in
     let b = bind_ok (each (row_at line m all) (range_with_len (i + 1) n)) (λ ys. Ok (a.0 ∷ ys)) rows a.2 in
     let r = rows_found line m (i + 1) n all b.0 b.1 in
-    let first = found (row_of i all) (missing_row line (i / m) (i % m)) a.0 a.1 in
+    let first = found (row_numbered i all) (missing_row line (i / m) (i % m)) a.0 a.1 in
     ok_carries (λ (z : List (List Outcome)). RowsFound i (suc n) all z) (a.0 ∷ b.0) rows b.2 (record { len = omega (arith, r.len); each_one = found_each i n all a.0 b.0 first r.each_one })
 
 -- the first row of a number is the row of that number
-row_skip : (k : ℕ) (before : List PlacedRow) (p : PlacedRow) (ps : List PlacedRow) → taken k before ≡ false → p.number ≡ k → row_of k (before ++ p ∷ ps) ≡ Some p.outcomes
+row_skip : (k : ℕ) (before : List PlacedRow) (p : PlacedRow) (ps : List PlacedRow) → taken k before ≡ false → p.number ≡ k → row_numbered k (before ++ p ∷ ps) ≡ Some p.outcomes
 row_skip k [] p ps e s = rw (eq-eqb p.number k s) refl
 row_skip k (b ∷ bs) p ps e s = let a = or_parts (eqb b.number k) (taken k bs) e in rw a.0 (row_skip k bs p ps a.1 s)
 
 -- the lines of rows are those of the rows in order, by their numbers
 lines_ordered : (g : GameModel) (w : World) (before ps : List PlacedRow) (n : ℕ) → list_all (λ k. nat_lt k n) (numbers ps) ≡ true → numbers_apart (numbers before) (numbers ps) ≡ true
-    → ((j : ℕ) → j < n → row_of j (before ++ ps) ≡ Some (slice_index_or w.rows j [])) → placed_lines g w.one w.two ps ≡ row_lines g w (numbers ps)
+    → ((j : ℕ) → j < n → row_numbered j (before ++ ps) ≡ Some (slice_index_or w.rows j [])) → placed_lines g w.one w.two ps ≡ row_lines g w (numbers ps)
 lines_ordered g w before [] n f e h = refl
 lines_ordered g w before (p ∷ ps) n f e h =
     let a = and_parts (nat_lt p.number n) (list_all (λ i. nat_lt i n) (numbers ps)) f in
@@ -264,27 +264,27 @@ lines_ordered g w before (p ∷ ps) n f e h =
     let mine = row_skip p.number before p ps new refl in
     let same : p.outcomes ≡ slice_index_or w.rows p.number [] = some_is p.outcomes (slice_index_or w.rows p.number []) (sym mine ∙ h p.number (ltb-true p.number n a.0)) in
     let others = lines_ordered g w (before ++ p ∷ []) ps n a.1 (subst (λ (ks : List ℕ). numbers_apart ks (numbers ps) ≡ true) (sym (numbers_push before p)) b.1)
-    (λ j lt. subst (λ (z : List PlacedRow). row_of j z ≡ Some (slice_index_or w.rows j [])) (sym (append_assoc before (p ∷ []) ps)) (h j lt)) in
+    (λ j lt. subst (λ (z : List PlacedRow). row_numbered j z ≡ Some (slice_index_or w.rows j [])) (sym (append_assoc before (p ∷ []) ps)) (h j lt)) in
     let x = name_of w.one (p.number / length w.two) in
     let y = name_of w.two (p.number % length w.two) in
     row_same x x y y (outcome_lines g p.outcomes) (outcome_lines g (slice_index_or w.rows p.number [])) (placed_lines g w.one w.two ps) (row_lines g w (numbers ps)) refl refl (ap (outcome_lines g) same) others
 
 -- a number with a row is one of the numbers
-row_there : (k : ℕ) (ps : List PlacedRow) (os : List Outcome) → row_of k ps ≡ Some os → one_of (numbers ps) k ≡ true
+row_there : (k : ℕ) (ps : List PlacedRow) (os : List Outcome) → row_numbered k ps ≡ Some os → one_of (numbers ps) k ≡ true
 row_there k [] os e = absurd cc
 row_there k (p ∷ ps) os e = elim (cases_Bool (eqb p.number k)) [
   | inl t ↦ or_left (eqb p.number k) (one_of (numbers ps) k) t
-  | inr t ↦ (let f : row_of k ps ≡ Some os = rw t at e in or_right (eqb p.number k) (one_of (numbers ps) k) (row_there k ps os f))
+  | inr t ↦ (let f : row_numbered k ps ≡ Some os = rw t at e in or_right (eqb p.number k) (one_of (numbers ps) k) (row_there k ps os f))
 ]
 
 -- the outcomes of the row of a number
-row_is_fine : (g : GameModel) (k : ℕ) (ps : List PlacedRow) (os : List Outcome) → list_all (placed_fine g) ps ≡ true → row_of k ps ≡ Some os → row_ok g os ≡ true
+row_is_fine : (g : GameModel) (k : ℕ) (ps : List PlacedRow) (os : List Outcome) → list_all (placed_fine g) ps ≡ true → row_numbered k ps ≡ Some os → row_ok g os ≡ true
 row_is_fine g k [] os f e = absurd cc
 row_is_fine g k (p ∷ ps) os f e =
     let a = and_parts (row_ok g p.outcomes) (list_all (placed_fine g) ps) f in
     elim (cases_Bool (eqb p.number k)) [
       | inl t ↦ (let h : ◌≡◌ {A = Option (List Outcome)} (Some p.outcomes) (Some os) = rw t at e in subst (λ (z : List Outcome). row_ok g z ≡ true) (some_is p.outcomes os h) a.0)
-      | inr t ↦ (let h : row_of k ps ≡ Some os = rw t at e in row_is_fine g k ps os a.1 h)
+      | inr t ↦ (let h : row_numbered k ps ≡ Some os = rw t at e in row_is_fine g k ps os a.1 h)
     ]
 
 -- ---- places
@@ -310,8 +310,8 @@ world_is g w krs ps rows f a b c =
     let r = rows_are g w.one w.two [] w.rows krs ps h2.1 a b in
     let s = rows_found w.line (length w.two) 0 count ps rows c in
     let made : World = record { one = w.one; two = w.two; rows = rows } in
-    let at : (j : ℕ) → j < count → row_of j ps ≡ Some (slice_index_or rows j []) = λ j lt. subst (λ (m : ℕ). row_of m ps ≡ Some (slice_index_or rows j [])) (omega arith) (s.each_one j lt) in
-    let at_rows : (j : ℕ) → j < length rows → row_of j ps ≡ Some (slice_index_or rows j []) = λ j lt. at j (subst (λ (m : ℕ). j < m) s.len lt) in
+    let at : (j : ℕ) → j < count → row_numbered j ps ≡ Some (slice_index_or rows j []) = λ j lt. subst (λ (m : ℕ). row_numbered m ps ≡ Some (slice_index_or rows j [])) (omega arith) (s.each_one j lt) in
+    let at_rows : (j : ℕ) → j < length rows → row_numbered j ps ≡ Some (slice_index_or rows j []) = λ j lt. at j (subst (λ (m : ℕ). j < m) s.len lt) in
     record {
       lines = ap (λ (ls : List Line). world_line w.name ∷ one_line w.one ∷ two_line w.two ∷ ls) (r.lines ∙ lines_ordered g made [] ps count r.below r.apart at);
       fine = and_from (are_names w.one) (are_names w.two && ((length rows == count) && list_all (row_ok g) rows)) h.0

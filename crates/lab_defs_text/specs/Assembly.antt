@@ -15,12 +15,12 @@ or_fault e None = Err e
 or_fault e (Some x) = Ok x
 
 -- the number of a name
-abbrev pub number_of : List Bytes → Bytes → Option ℕ
-number_of ns n = position (bytes_eq n) ns
+abbrev pub name_number : List Bytes → Bytes → Option ℕ
+name_number ns n = position (bytes_eq n) ns
 
--- the number of the name that stands at a place of a line
+-- the number of the name at a place of a line
 abbrev pub known : List Bytes → ℕ → ℕ → Bytes → Result ℕ TextFault
-known ns line place n = or_fault (unknown_name line place) (number_of ns n)
+known ns line place n = or_fault (unknown_name line place) (name_number ns n)
 
 -- ---- names to numbers
 
@@ -69,7 +69,7 @@ unless_taken line k before = if taken k before then Err (extra_row line) else Ok
 -- the number of the joint action of a row
 abbrev pub action_of : List Bytes → List Bytes → KnownRow → Result ℕ TextFault
 action_of one two r =
-    or_fault (extra_row r.line) (number_of one r.first) >>= λ i. or_fault (extra_row r.line) (number_of two r.second) >>= λ j. Ok (i * length two + j)
+    or_fault (extra_row r.line) (name_number one r.first) >>= λ i. or_fault (extra_row r.line) (name_number two r.second) >>= λ j. Ok (i * length two + j)
 
 -- rows by their joint actions, each of which is new
 abbrev pub place_rows : List Bytes → List Bytes → List PlacedRow → List KnownRow → Result (List PlacedRow) TextFault
@@ -91,13 +91,13 @@ placed (known_end z) = Ok (placed_end z)
 -- ---- rows in the order of joint actions
 
 -- the outcomes of a joint action
-abbrev pub row_of : ℕ → List PlacedRow → Option (List Outcome)
-row_of k [] = None
-row_of k (p ∷ ps) = if p.number == k then Some p.outcomes else row_of k ps
+abbrev pub row_numbered : ℕ → List PlacedRow → Option (List Outcome)
+row_numbered k [] = None
+row_numbered k (p ∷ ps) = if p.number == k then Some p.outcomes else row_numbered k ps
 
 -- the outcomes that a joint action must have, m being the number of seat 2's actions
 abbrev pub row_at : ℕ → ℕ → List PlacedRow → ℕ → Result (List Outcome) TextFault
-row_at line m ps k = or_fault (missing_row line (k / m) (k % m)) (row_of k ps)
+row_at line m ps k = or_fault (missing_row line (k / m) (k % m)) (row_numbered k ps)
 
 -- a place with a row for each joint action
 abbrev pub ordered : PlacedPlace → Result Place TextFault

@@ -41,7 +41,7 @@ abbrev pub place_name : PartPlace → Bytes
 place_name (part_world w) = w.name
 place_name (part_end n line z) = n
 
--- what the lines so far declare. The last world and the last row stand apart until they are whole
+-- what the lines so far declare. The last world and the last row are apart until they are whole
 pub record Draft : Type 0 where
   pub grid : ℕ
   pub horizon : ℕ
@@ -73,27 +73,27 @@ with_rows w rows = record { name = w.name; line = w.line; one = w.one; two = w.t
 abbrev pub with_outcomes : PartRow → List PartOutcome → PartRow
 with_outcomes r outcomes = record { line = r.line; first = r.first; second = r.second; outcomes = outcomes }
 
--- the rows of the last world: behind an outcome the last row is one of them
+-- the rows of the last world: after an outcome the last row is one of them
 abbrev pub whole_rows : Kind → Draft → List PartRow
 whole_rows to_kind d = d.open_world.rows ++ d.open_row ∷ []
 whole_rows _ d = d.open_world.rows
 
--- the places: behind an outcome the last world is one of them
+-- the places: after an outcome the last world is one of them
 abbrev pub whole_places : Kind → Draft → List PartPlace
 whole_places to_kind d = d.places ++ part_world (with_rows d.open_world (d.open_world.rows ++ d.open_row ∷ [])) ∷ []
 whole_places _ d = d.places
 
--- the world that is open where another place or the root begins: none behind an outcome
+-- the world that is open where another place or the root begins: none after an outcome
 abbrev pub cleared_world : Kind → Draft → PartWorld
 cleared_world to_kind d = no_world
 cleared_world _ d = d.open_world
 
--- likewise the row
+-- the row that is open where another one begins: none after an outcome
 abbrev pub cleared_row : Kind → Draft → PartRow
 cleared_row to_kind d = no_row
 cleared_row _ d = d.open_row
 
--- the first place of a name that stands before it, where the first name has the given place; 0 where there is none
+-- the first place of an equal name before it, where the first name has the given place; 0 where there is none
 abbrev pub first_twice : ℕ → List Bytes → List Bytes → ℕ
 first_twice place before [] = 0
 first_twice place before (n ∷ ns) = if stands_in n before then place else first_twice (place + 1) (before ++ n ∷ []) ns
@@ -106,7 +106,7 @@ unless_twice twice x = if twice then Err (twice_at 2) else Ok x
 abbrev pub unless_repeated : {A : Type 0} → List Bytes → A → Result A LineFault
 unless_repeated ns x = if first_twice 2 [] ns == 0 then Ok x else Err (twice_at (first_twice 2 [] ns))
 
--- the parts with line n, behind a line of a kind that it may follow
+-- the parts with line n, after a line of a kind that it may follow
 abbrev pub with_line : ℕ → Kind → Draft → Line → Result Draft LineFault
 with_line n last d head_line = Ok d
 with_line n last d (grid_line g) = Ok (record d { grid = g })
@@ -141,7 +141,7 @@ abbrev pub is_done : Kind → Bool
 is_done done_kind = true
 is_done _ = false
 
--- the parts, where nothing stands behind line n
+-- the parts, where nothing follows line n
 abbrev pub at_done : ℕ → Draft → List Bytes → Result Draft TextFault
 at_done n d ([] ∷ []) = Ok d
 at_done n d _ = Err (extra_line (n + 1))
@@ -151,7 +151,7 @@ abbrev pub cut : ℕ → Bytes → Result Draft TextFault
 cut n [] = Err (cut_short n)
 cut n (c ∷ cs) = Err (no_newline n)
 
--- the parts with the lines from line n on, behind a line of a kind; the last of the pieces is no line
+-- the parts with the lines from line n on, after a line of a kind; the last of the pieces is no line
 abbrev pub read_from : ℕ → Kind → Draft → List Bytes → Result Draft TextFault
 read_from n last d [] = Err (cut_short n)
 read_from n last d (l ∷ []) = cut n l

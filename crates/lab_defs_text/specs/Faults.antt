@@ -8,7 +8,7 @@ pub data LexFault : Type 0 where
   bad_number_at : (place : ℕ) → LexFault
   out_of_range_at : (place : ℕ) → LexFault
 
--- a line that may not stand where it does: a word that is wrong in itself, one other than what is wanted, or a name that was given before
+-- a line that may not be where it is: a word that is wrong in itself, one other than what is wanted, or a name that was given before
 pub data LineFault : Type 0 where
   lexical : (fault : LexFault) → LineFault
   bad_word_at : (place : ℕ) → LineFault

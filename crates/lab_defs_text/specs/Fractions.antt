@@ -13,7 +13,7 @@ lowest_num num den = signed_of (int_lt num (pos 0)) (unsigned_abs num / gcd (uns
 abbrev pub lowest_den : ℤ → ℕ → ℕ
 lowest_den num den = den / gcd (unsigned_abs num) den
 
--- a numerator, a slash and a denominator as they stand
+-- a numerator, a slash and a denominator as they are
 abbrev pub quotient_text : ℤ → ℕ → Bytes
 quotient_text num den = signed_numeral num ++ (47 ∷ numeral den)
 

@@ -6,6 +6,7 @@ use Rattle.lab_defs_text.specs.Words.{Bytes}
 use Rattle.lab_defs_text.specs.Numbers.{numeral, signed_numeral}
 use Rattle.lab_defs_text.specs.Games.{Recall, by_acts, by_seen}
 
+-- a line of a game text
 pub data Line : Type 0 where
   head_line : Line
   grid_line : (grid : ℕ) → Line

@@ -1,5 +1,5 @@
--- What holds of the parts of a text where each of its lines may stand.
-use Rattle.std.specs.Prelude.{ℕ, List, Bool, ◌&&◌, nat_lt, length, map}
+-- What holds of the parts of a text where each of its lines is well formed and in its place.
+use Rattle.std.specs.Prelude.{Bool, ◌&&◌, nat_lt, length, map}
 use Rattle.std.specs.List.{list_all}
 use Rattle.lab_defs_text.specs.Words.{are_names}
 use Rattle.lab_defs_text.specs.Texts.{is_within, is_payoff}

@@ -61,21 +61,21 @@ keyword root_kind = codes "root"
 keyword done_kind = codes "done"
 
 -- the kinds of lines that may follow one of a kind
-abbrev pub followers : Kind → List Kind
-followers start_kind = head_kind ∷ []
-followers head_kind = grid_kind ∷ []
-followers grid_kind = horizon_kind ∷ []
-followers horizon_kind = memory_kind ∷ []
-followers memory_kind = token_kind ∷ []
-followers token_kind = token_kind ∷ world_kind ∷ end_kind ∷ []
-followers world_kind = one_kind ∷ []
-followers one_kind = two_kind ∷ []
-followers two_kind = row_kind ∷ []
-followers row_kind = to_kind ∷ []
-followers to_kind = to_kind ∷ row_kind ∷ world_kind ∷ end_kind ∷ root_kind ∷ []
-followers end_kind = world_kind ∷ end_kind ∷ root_kind ∷ []
-followers root_kind = done_kind ∷ []
-followers done_kind = []
+abbrev pub next_kinds : Kind → List Kind
+next_kinds start_kind = head_kind ∷ []
+next_kinds head_kind = grid_kind ∷ []
+next_kinds grid_kind = horizon_kind ∷ []
+next_kinds horizon_kind = memory_kind ∷ []
+next_kinds memory_kind = token_kind ∷ []
+next_kinds token_kind = token_kind ∷ world_kind ∷ end_kind ∷ []
+next_kinds world_kind = one_kind ∷ []
+next_kinds one_kind = two_kind ∷ []
+next_kinds two_kind = row_kind ∷ []
+next_kinds row_kind = to_kind ∷ []
+next_kinds to_kind = to_kind ∷ row_kind ∷ world_kind ∷ end_kind ∷ root_kind ∷ []
+next_kinds end_kind = world_kind ∷ end_kind ∷ root_kind ∷ []
+next_kinds root_kind = done_kind ∷ []
+next_kinds done_kind = []
 
 -- the one of some kinds that a word is the first word of
 abbrev pub kind_among : List Kind → Bytes → Option Kind
@@ -84,7 +84,7 @@ kind_among (k ∷ ks) word = if bytes_eq word (keyword k) then Some k else kind_
 
 -- ---- how many words follow the first one
 
--- the first missing or the first extra word, where n words are wanted behind the first one
+-- the first missing or the first extra word, where n words are wanted after the first one
 abbrev pub miscounted : {A : Type 0} → ℕ → List Bytes → Result A LineFault
 miscounted n ws = Err (bad_word_at (min n (length ws) + 2))
 
@@ -144,12 +144,12 @@ abbrev pub number_at : ℕ → ℕ → ℕ → Bytes → Result ℕ LineFault
 number_at place lo hi word = whole_at place (pos lo) (pos hi) word >>= λ z. Ok (unsigned_abs z)
 
 -- a payoff
-abbrev pub payoff_at : ℕ → Bytes → Result ℤ LineFault
-payoff_at place word = whole_at place (neg_ℤ (pos 1048576)) (pos 1048576) word
+abbrev pub payoff_word : ℕ → Bytes → Result ℤ LineFault
+payoff_word place word = whole_at place (neg_ℤ (pos 1048576)) (pos 1048576) word
 
 -- ---- a line
 
--- the line of a kind that has these words behind its first one: first their number is looked at, then each word
+-- the line of a kind that has these words after its first one: first their number is looked at, then each word
 abbrev pub rest_at : Kind → List Bytes → Result Line LineFault
 rest_at start_kind ws = Err (bad_word_at 1)
 rest_at head_kind ws = one_word ws >>= λ a. fixed_at 2 (codes "1") a >>= λ x. Ok head_line
@@ -163,20 +163,20 @@ rest_at two_kind ws = some_words ws >>= λ ns. names_at 2 ns >>= λ xs. Ok (two_
 rest_at row_kind ws = two_words ws >>= λ a. name_at 2 a.0 >>= λ x. name_at 3 a.1 >>= λ y. Ok (row_line x y)
 rest_at to_kind ws =
     five_words ws >>= λ a. number_at 2 1 1048576 a.0 >>= λ w. name_at 3 a.1 >>= λ n. name_at 4 a.2 >>= λ x. name_at 5 a.3 >>= λ y. name_at 6 a.4 >>= λ p. Ok (to_line w n x y p)
-rest_at end_kind ws = two_words ws >>= λ a. name_at 2 a.0 >>= λ n. payoff_at 3 a.1 >>= λ z. Ok (end_line n z)
+rest_at end_kind ws = two_words ws >>= λ a. name_at 2 a.0 >>= λ n. payoff_word 3 a.1 >>= λ z. Ok (end_line n z)
 rest_at root_kind ws = one_word ws >>= λ a. name_at 2 a >>= λ n. Ok (root_line n)
 rest_at done_kind ws = no_words ws >>= λ x. Ok done_line
 
--- likewise where the first word has a kind, or none
+-- the line whose first word has a kind, or none
 abbrev pub of_kind : Option Kind → List Bytes → Result Line LineFault
 of_kind None ws = Err (bad_word_at 1)
 of_kind (Some k) ws = rest_at k ws
 
--- the line with these words, behind a line of a kind
+-- the line with these words, after a line of a kind
 abbrev pub words_at : Kind → List Bytes → Result Line LineFault
 words_at last [] = Err (bad_word_at 1)
-words_at last (w ∷ ws) = of_kind (kind_among (followers last) w) ws
+words_at last (w ∷ ws) = of_kind (kind_among (next_kinds last) w) ws
 
--- the line that has these bytes, behind a line of a kind
+-- the line that has these bytes, after a line of a kind
 abbrev pub line_at : Kind → Bytes → Result Line LineFault
 line_at last bytes = if first_empty 1 (words bytes) == 0 then words_at last (words bytes) else Err (lexical (bad_space_at (first_empty 1 (words bytes))))

@@ -11,6 +11,7 @@ name_of ns n = slice_index_or ns n []
 
 -- ---- the lines of a game
 
+-- the lines of outcomes
 abbrev pub outcome_lines : GameModel → List Outcome → List Line
 outcome_lines g [] = []
 outcome_lines g (o ∷ os) =
@@ -32,6 +33,7 @@ abbrev pub places_lines : GameModel → List Bytes → List Place → List (List
 places_lines g (n ∷ ns) (p ∷ ps) (ks ∷ kss) = place_lines g n p ks ++ places_lines g ns ps kss
 places_lines g _ _ _ = []
 
+-- the lines of tokens
 abbrev pub token_lines : List Bytes → List Line
 token_lines [] = []
 token_lines (t ∷ ts) = token_line t ∷ token_lines ts
@@ -44,27 +46,34 @@ game_lines g orders =
 
 -- ---- games that a text may have
 
+-- whether a number is within a range, its ends included
 abbrev pub is_within : ℕ → ℕ → ℕ → Bool
 is_within lo hi n = nat_le lo n && nat_le n hi
 
+-- whether a number is within the limits of a payoff
 abbrev pub is_payoff : ℤ → Bool
 is_payoff z = int_le (neg_ℤ (pos 1048576)) z && int_le z (pos 1048576)
 
+-- whether an outcome has a weight within its limits, and its place and tokens are there
 abbrev pub outcome_ok : GameModel → Outcome → Bool
 outcome_ok g o =
     is_within 1 1048576 o.weight && (nat_lt o.next (length g.names) && (nat_lt o.own1 (length g.tokens) && (nat_lt o.own2 (length g.tokens) && nat_lt o.public (length g.tokens))))
 
+-- whether a row has an outcome, and each is fine
 abbrev pub row_ok : GameModel → List Outcome → Bool
 row_ok g os = nat_lt 0 (length os) && list_all (outcome_ok g) os
 
+-- whether a place has actions of each seat, none twice, and a fine row for each joint action; or pays within the limits
 abbrev pub place_ok : GameModel → Place → Bool
 place_ok g (a_world w) = are_names w.one && (are_names w.two && ((length w.rows == length w.one * length w.two) && list_all (row_ok g) w.rows))
 place_ok g (an_end z) = is_payoff z
 
+-- whether a place is a world
 abbrev pub is_world : Place → Bool
 is_world (a_world w) = true
 is_world (an_end z) = false
 
+-- the place with a number
 abbrev pub place_at : GameModel → ℕ → Place
 place_at g n = slice_index_or g.places n (an_end (pos 0))
 
@@ -76,24 +85,27 @@ game_ok g =
 
 -- ---- orders of rows
 
+-- whether a number is one of a list
 abbrev pub one_of : List ℕ → ℕ → Bool
 one_of ks k = list_any (λ i. i == k) ks
 
--- no number stands among those before it
+-- no number is among those before it
 abbrev pub numbers_apart : List ℕ → List ℕ → Bool
 numbers_apart before [] = true
 numbers_apart before (k ∷ ks) = not (one_of before k) && numbers_apart (before ++ k ∷ []) ks
 
--- the numbers below n in some order: each stands there, no other does, and none stands twice
+-- the numbers below n in some order: each is there, no other is, and none is there twice
 pub record IsOrder (n : ℕ) (ks : List ℕ) : Type 0 where
   pub below : list_all (λ k. nat_lt k n) ks ≡ true
   pub once : numbers_apart [] ks ≡ true
   pub whole : (k : ℕ) → k < n → one_of ks k ≡ true
 
+-- an order of the rows of a place: its rows, each once
 abbrev pub IsOrderOf : Place → List ℕ → Type 0
 IsOrderOf (a_world w) ks = IsOrder (length w.rows) ks
 IsOrderOf (an_end z) ks = ks ≡ []
 
+-- an order of the rows of each place
 abbrev pub AreOrders : List Place → List (List ℕ) → Type 0
 AreOrders [] [] = Unit {0}
 AreOrders [] (ks ∷ kss) = ⊥

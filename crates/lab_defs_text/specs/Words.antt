@@ -8,7 +8,7 @@ use Rattle.std.specs.Str.{bytes_eq}
 abbrev pub Bytes : Type 0
 Bytes = List ℕ
 
--- the pieces between line feeds: the lines, and behind them what no line feed ends
+-- the pieces between line feeds: the lines, and after them what no line feed ends
 abbrev pub lines : Bytes → List Bytes
 lines bytes = slice_split (λ c. c == 10) bytes
 
@@ -34,7 +34,7 @@ is_name word = nat_lt 0 (length word) && (nat_le (length word) 32 && list_all is
 abbrev pub stands_in : Bytes → List Bytes → Bool
 stands_in name others = list_any (bytes_eq name) others
 
--- no name stands among those before it
+-- no name is among those before it
 abbrev pub apart_after : List Bytes → List Bytes → Bool
 apart_after before [] = true
 apart_after before (n ∷ ns) = not (stands_in n before) && apart_after (before ++ n ∷ []) ns

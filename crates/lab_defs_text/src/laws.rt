@@ -1,5 +1,5 @@
 //! Laws of the texts of a game.
-ghost use Rattle.lab_defs_text.specs.Laws.{CanonicalLaw, TextLaw, OneGameLaw, NoGameLaw, ReadBackLaw, SpellingLaw};
+ghost use Rattle.lab_defs_text.specs.Laws.{CanonicalLaw, TextLaw, OneGameLaw, NoGameLaw, ReadBackLaw, SpellingLaw, LowestLaw};
 
 /// The canonical text of each game within the limits is one of its texts.
 pub fn canonical_texts()
@@ -29,4 +29,9 @@ pub fn canonical_texts_are_read()
 /// A number has one spelling.
 pub fn one_spelling()
     ensures { SpellingLaw }
+{}
+
+/// A fraction in lowest terms is the same fraction, and its terms have no common divisor.
+pub fn lowest_terms()
+    ensures { LowestLaw }
 {}

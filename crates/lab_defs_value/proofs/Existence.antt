@@ -5,33 +5,33 @@ use Rattle.lab_math.specs.Sums.{total}
 use Rattle.lab_math.proofs.Integers.{le_antisym_z}
 use Rattle.lab_math.proofs.BelowLemmas.{eqb_self, eqb_apart, total_below_cong}
 use Rattle.lab_math.proofs.Elements.{greatest_below}
-use Rattle.lab_defs_value.specs.Parents.{is_step}
-use Rattle.lab_defs_value.proofs.Views.{View, Ending, actions_at, AtMostDecisions, backed, IsView, BackedUp, BackedAt, BestBack}
+use Rattle.lab_defs_game.specs.Paths.{is_taken}
+use Rattle.lab_defs_value.proofs.StepForms.{StepForm, Ending, actions_at, AtMostDecisions, backed, IsStepForm, BackedUp, BackedAt, BestBack}
 use Rattle.lab_defs_value.proofs.Bests.{follows_after, backed_up-BestBack, BestBack-unique}
 
 -- what an action backs up depends on the sets after it alone
-pub backed_cong : (v : View) → IsView v → (B C : ℕ → ℤ) (J a : ℕ) → ((K : ℕ) → J < K → K < length v.actions → B K ≡ C K) → backed v B J a ≡ backed v C J a
+pub backed_cong : (v : StepForm) → IsStepForm v → (B C : ℕ → ℤ) (J a : ℕ) → ((K : ℕ) → J < K → K < length v.actions → B K ≡ C K) → backed v B J a ≡ backed v C J a
 backed_cong v ok B C J a same =
-    ap (λ t. t +ℤ total (λ (z : Ending). cond (is_step z.last J a) z.worth (pos 0)) v.rows)
-    (total_below_cong (length v.actions) _ _ (λ K l. at K l (is_step (v.parent K) J a) refl))
+    ap (λ t. t +ℤ total (λ (z : Ending). cond (is_taken (record { set = J; action = a }) z.last) z.worth (pos 0)) v.rows)
+    (total_below_cong (length v.actions) _ _ (λ K l. at K l (is_taken (record { set = J; action = a }) (v.parent K)) refl))
   where
-    at : (K : ℕ) → K < length v.actions → (b : Bool) → is_step (v.parent K) J a ≡ b → cond b (B K) (pos 0) ≡ cond b (C K) (pos 0)
-    at K l true e = same K (follows_after v K J a (v.parent K) (ok.parents K l) e) l
+    at : (K : ℕ) → K < length v.actions → (b : Bool) → is_taken (record { set = J; action = a }) (v.parent K) ≡ b → cond b (B K) (pos 0) ≡ cond b (C K) (pos 0)
+    at K l true e = same K (follows_after v.actions K J a (v.parent K) (ok.parents K l) e) l
     at K l false e = refl
 
 -- a table that is backed up at each set is backed up
-pub all-BackedUp : (v : View) (B : ℕ → ℤ) → ((J : ℕ) → J < length v.actions → BackedAt v B J) → BackedUp v B
+pub all-BackedUp : (v : StepForm) (B : ℕ → ℤ) → ((J : ℕ) → J < length v.actions → BackedAt v B J) → BackedUp v B
 all-BackedUp v B h = record { bounds = λ J a l k. (h J l).bounds a k; taken = λ J l. (h J l).taken }
 
 -- being backed up at a set looks at that set and those after it alone
-pub BackedAt-cong : (v : View) → IsView v → (B C : ℕ → ℤ) (J : ℕ) → B J ≡ C J → ((K : ℕ) → J < K → K < length v.actions → B K ≡ C K) → BackedAt v B J → BackedAt v C J
+pub BackedAt-cong : (v : StepForm) → IsStepForm v → (B C : ℕ → ℤ) (J : ℕ) → B J ≡ C J → ((K : ℕ) → J < K → K < length v.actions → B K ≡ C K) → BackedAt v B J → BackedAt v C J
 BackedAt-cong v ok B C J here same h = record {
   bounds = λ a l. subst (λ t. t ≤ℤ C J) (backed_cong v ok B C J a same) (subst (λ t. backed v B J a ≤ℤ t) here (h.bounds a l));
   taken = (h.taken.0, h.taken.1, sym (backed_cong v ok B C J h.taken.0 same) ∙ h.taken.2 ∙ here);
 }
 
 -- the table, from the last d sets
-table_from : (v : View) → IsView v → (d : ℕ) → (B : ℕ → ℤ) × ((J : ℕ) → J < length v.actions → length v.actions ≤ J + d → BackedAt v B J)
+table_from : (v : StepForm) → IsStepForm v → (d : ℕ) → (B : ℕ → ℤ) × ((J : ℕ) → J < length v.actions → length v.actions ≤ J + d → BackedAt v B J)
 table_from v ok zero = (λ J. pos 0, λ J l le. absurd (omega arith))
 table_from v ok (suc d) = more (table_from v ok d) (cases_lt d (length v.actions))
   where
@@ -58,13 +58,13 @@ table_from v ok (suc d) = more (table_from v ok d) (cases_lt d (length v.actions
         )
 
 -- a table that is backed up
-pub backed_up_exists : (v : View) → IsView v → (B : ℕ → ℤ) × BackedUp v B
+pub backed_up_exists : (v : StepForm) → IsStepForm v → (B : ℕ → ℤ) × BackedUp v B
 backed_up_exists v ok =
     let t = table_from v ok (length v.actions) in
     (t.0, all-BackedUp v t.0 (λ J l. t.1 J l (omega arith)))
 
 -- a table of numbers that are the most that replies earn is backed up
-pub bests-BackedUp : (v : View) → IsView v → (m : ℕ) → AtMostDecisions v m → (B : ℕ → ℤ) → ((J : ℕ) → J < length v.actions → BestBack v m J (B J)) → BackedUp v B
+pub bests-BackedUp : (v : StepForm) → IsStepForm v → (m : ℕ) → AtMostDecisions v m → (B : ℕ → ℤ) → ((J : ℕ) → J < length v.actions → BestBack v m J (B J)) → BackedUp v B
 bests-BackedUp v ok m few B best =
     let t = backed_up_exists v ok in
     let T = t.0 in
@@ -74,21 +74,8 @@ bests-BackedUp v ok m few B best =
 
 -- ---- settling
 
--- two tables that are backed up from J on are equal there
-pub backed_up-unique : (v : View) → IsView v → (B T : ℕ → ℤ) (j : ℕ) → ((K : ℕ) → j ≤ K → K < length v.actions → BackedAt v B K) → ((K : ℕ) → j ≤ K → K < length v.actions → BackedAt v T K)
-    → (d J : ℕ) → j ≤ J → J < length v.actions → length v.actions ≤ J + d → B J ≡ T J
-backed_up-unique v ok B T j b t zero J ge l le = absurd (omega arith)
-backed_up-unique v ok B T j b t (suc d) J ge l le =
-    at (λ K k kl. backed_up-unique v ok B T j b t d K (omega arith) kl (omega arith)) (b J ge l).taken (t J ge l).taken
-  where
-    at : ((K : ℕ) → J < K → K < length v.actions → B K ≡ T K) → (a : ℕ) × (a < actions_at v J) × (backed v B J a ≡ B J) → (a : ℕ) × (a < actions_at v J) × (backed v T J a ≡ T J) → B J ≡ T J
-    at later x y =
-        le_antisym_z (B J) (T J)
-        (subst (λ v. v ≤ℤ T J) (sym (backed_cong v ok B T J x.0 later) ∙ x.2) ((t J ge l).bounds x.0 x.1))
-        (subst (λ v. v ≤ℤ B J) (backed_cong v ok B T J y.0 later ∙ y.2) ((b J ge l).bounds y.0 y.1))
-
 -- a table is the bests once each number in it is a best, or is backed up from the numbers after it
-pub settles : (v : View) → IsView v → (m : ℕ) → AtMostDecisions v m → (B : ℕ → ℤ)
+pub settles : (v : StepForm) → IsStepForm v → (m : ℕ) → AtMostDecisions v m → (B : ℕ → ℤ)
     → ((J : ℕ) → J < length v.actions → BestBack v m J (B J) ⊎ BackedAt v B J)
     → (J : ℕ) → J < length v.actions → BestBack v m J (B J)
 settles v ok m few B each J l =

@@ -1,5 +1,5 @@
 -- Allowances by reach: each is a part of a pool, and the parts of a pool sum to it.
-use Rattle.std.proofs.Common.{◌≡◌, ℕ, zero, suc, ◌+◌, ◌*◌, ◌/◌, ◌%◌, ◌<◌, ◌≤◌, ℤ, pos, ◌+ℤ◌, ◌-ℤ◌, List, [], ◌∷◌, Bool, true, false, cond, eqb, ltb, min, Option, Some, None, length, refl, ap, ◌∙◌, subst, arith, inl, inr, filter, lt-ltb, le-ltb, eqb-true, mod-lt}
+use Rattle.std.proofs.Common.{◌≡◌, ℕ, zero, suc, ◌+◌, ◌*◌, ◌/◌, ◌%◌, ◌<◌, ◌≤◌, ℤ, pos, ◌+ℤ◌, ◌-ℤ◌, List, [], ◌∷◌, Bool, true, false, cond, eqb, ltb, min, Option, Some, None, length, refl, sym, ap, ◌∙◌, subst, arith, zero-add, inl, inr, filter, lt-ltb, le-ltb, eqb-true, mod-lt}
 use Rattle.std.specs.Prelude.{nat_lt}
 use Rattle.std.specs.List.{range_with_len}
 use Rattle.std.proofs.lemmas.Bool.{cases_lt, and_parts}
@@ -7,15 +7,16 @@ use Rattle.lab_math.specs.Sums.{sum_over}
 use Rattle.lab_math.specs.Below.{sum_below}
 use Rattle.lab_defs_game.specs.Keys.{count}
 use Rattle.lab_defs_game.specs.Sets.{sets}
-use Rattle.lab_defs_game.specs.Forms.{Taken}
-use Rattle.lab_defs_value.specs.Rounding.{share_size}
+use Rattle.lab_defs_game.specs.Paths.{SetAction, is_taken}
+use Rattle.lab_defs_game.specs.Forms.{parent_of}
+use Rattle.lab_defs_game.proofs.SetNumbers.{path_sets_are}
+use Rattle.lab_defs_value.specs.Rounding.{share_size, even_part}
 use Rattle.lab_defs_value.specs.Bounds.{through}
-use Rattle.lab_defs_value.specs.Parents.{is_step, IsStepBelow}
+use Rattle.lab_defs_value.specs.Parents.{IsStepBelow}
 use Rattle.lab_defs_value.specs.Replies.{Strategy, opponent, reply_sets}
-use Rattle.lab_defs_game.specs.Nodes.{begins}
-use Rattle.lab_defs_value.specs.Allowances.{reach, public_of, parent, followers, pool_part, pool, shared, reach_within, allowance, Ascends}
-use Rattle.lab_defs_value.proofs.Parenthood.{parents_below}
-use Rattle.lab_defs_value.specs.Laws.{Sound, ReachLaw, PoolLaw, PathLaw}
+use Rattle.lab_defs_game.specs.Nodes.{begins, public_of}
+use Rattle.lab_defs_value.specs.Allowances.{reach, pool, shared, reach_within, allowance, Ascends, path_followers}
+use Rattle.lab_defs_value.specs.Laws.{Sound, ReachLaw, PoolLaw, EvenPartLaw, PathOrderLaw}
 
 -- ---- the parts of a pool
 
@@ -27,13 +28,33 @@ more_min k r = elim (cases_lt k r) [
 ]
 
 -- the first k parts
-parts_below : (g m k : ℕ) → sum_below k (pool_part g m) ≡ k * (g / m) + min k (g % m)
+parts_below : (g m k : ℕ) → sum_below k (even_part g m) ≡ k * (g / m) + min k (g % m)
 parts_below g m zero = omega arith
 parts_below g m (suc k) = omega (arith, parts_below g m k, more_min k (g % m))
 
 -- all parts are the pool
-pub parts_sum : (g m : ℕ) → 0 < m → sum_below m (pool_part g m) ≡ g
+pub parts_sum : (g m : ℕ) → 0 < m → sum_below m (even_part g m) ≡ g
 parts_sum g m p = omega (arith, parts_below g m m, mod-lt g p)
+
+-- the units of what remains: one at most at each place, none after a place without one
+units_fall : (k r : ℕ) → (cond (ltb (k + 1) r) (suc zero) zero ≤ cond (ltb k r) (suc zero) zero) × (cond (ltb k r) (suc zero) zero ≤ suc zero)
+units_fall k r = elim (cases_lt k r) [
+  | inl l ↦ let e : cond (ltb k r) (suc zero) zero ≡ suc zero = ap (λ b. cond b (suc zero) zero) (lt-ltb k r l) in (omega (arith, e, at_most (ltb (k + 1) r)), omega (arith, e))
+  | inr g ↦
+      let e : cond (ltb (k + 1) r) (suc zero) zero ≡ zero = ap (λ b. cond b (suc zero) zero) (le-ltb (k + 1) r (omega (arith, g))) in
+      (omega (arith, e), at_most (ltb k r))
+]
+  where
+    at_most : (b : Bool) → cond b (suc zero) zero ≤ suc zero
+    at_most true = omega arith
+    at_most false = omega arith
+
+-- the law of even parts
+pub even_part_law : EvenPartLaw
+even_part_law number m some = (
+  λ place. let u = units_fall place (number % m) in (omega (arith, u.0), omega (arith, u.1)),
+  parts_sum number m some,
+)
 
 -- ---- sums by rank
 
@@ -100,23 +121,21 @@ ascends_range s (suc n) =
     (omega arith, omega arith, subst (λ k. Ascends k (s + suc n) (range_with_len (s + 1) n)) next (subst (λ k. Ascends (s + 1) k (range_with_len (s + 1) n)) long (ascends_range (s + 1) n)))
 
 -- the sets on a public path are in order
-pub path_law : PathLaw
-path_law g seat node = at (length (sets g seat))
-  where
-    at : (n : ℕ) → Ascends 0 n (filter (λ I. begins (public_of g seat I) node) (range_with_len 0 n))
-    at n =
-        let end : 0 + n ≡ n = omega arith in
-        ascends_filter (λ I. begins (public_of g seat I) node) 0 n (range_with_len 0 n) (subst (λ k. Ascends 0 k (range_with_len 0 n)) end (ascends_range 0 n))
+pub path_law : PathOrderLaw
+path_law g seat node =
+    subst (Ascends 0 (length (sets g seat))) (sym (path_sets_are g seat node))
+    (ascends_filter (λ I. begins (public_of g seat I) node) 0 (length (sets g seat)) (range_with_len 0 (length (sets g seat)))
+    (subst (λ k. Ascends 0 k (range_with_len 0 (length (sets g seat)))) (zero-add (length (sets g seat))) (ascends_range 0 (length (sets g seat)))))
 
 -- ---- the allowances
 
 -- a part looks at the allowances of earlier sets alone
-shared_cong : (s : Strategy) (B : ℕ → ℤ) (path : List ℕ) (above above' : ℕ → ℕ) (I : ℕ) (o : Option Taken) → IsStepBelow (reply_sets s) I o → ((J : ℕ) → J < I → above J ≡ above' J)
+shared_cong : (s : Strategy) (B : ℕ → ℤ) (path : List ℕ) (above above' : ℕ → ℕ) (I : ℕ) (o : Option SetAction) → IsStepBelow (reply_sets s) I o → ((J : ℕ) → J < I → above J ≡ above' J)
     → shared s B path above I o ≡ shared s B path above' I o
 shared_cong s B path above above' I None h same = refl
 shared_cong s B path above above' I (Some t) h same =
-    let family = followers s path t.set t.action in
-    ap (λ x. pool_part x (length family) (rank family I)) (pool_cong (same t.set h.0))
+    let family = path_followers s path t.set t.action in
+    ap (λ x. even_part x (length family) (rank family I)) (pool_cong (same t.set h.0))
   where
     pool_cong : above t.set ≡ above' t.set → pool s B above t.set t.action ≡ pool s B above' t.set t.action
     pool_cong e = ap (λ x. share_size (pos x +ℤ (B t.set -ℤ through s B t.set t.action))) e
@@ -126,20 +145,20 @@ room : (s : Strategy) → Sound s → (B : ℕ → ℤ) (path : List ℕ) (k l I
 room s ok B path zero l I p q r = absurd (omega (arith, p))
 room s ok B path (suc k) zero I p q r = absurd (omega (arith, q))
 room s ok B path (suc k) (suc l) I p q r =
-    shared_cong s B path (reach_within s B path k) (reach_within s B path l) I (parent s I) (parents_below s.form (opponent s) ok I) (λ J lt. room s ok B path k l J (omega (arith, lt, p)) (omega (arith, lt, q)) (omega (arith, lt, r)))
+    shared_cong s B path (reach_within s B path k) (reach_within s B path l) I (parent_of s.form (opponent s) I) (ok.parents I r) (λ J lt. room s ok B path k l J (omega (arith, lt, p)) (omega (arith, lt, q)) (omega (arith, lt, r)))
 
 -- each set has its part of the pool of the step that it follows
 pub reach_law : ReachLaw
 reach_law s ok B path I l = at (length (reply_sets s)) refl
   where
-    at : (k : ℕ) → length (reply_sets s) ≡ k → reach_within s B path k I ≡ shared s B path (allowance reach s B path) I (parent s I)
+    at : (k : ℕ) → length (reply_sets s) ≡ k → reach_within s B path k I ≡ shared s B path (allowance reach s B path) I (parent_of s.form (opponent s) I)
     at zero e = absurd (omega (arith, e, l))
     at (suc k) e =
-        shared_cong s B path (reach_within s B path k) (allowance reach s B path) I (parent s I) (parents_below s.form (opponent s) ok I)
+        shared_cong s B path (reach_within s B path k) (allowance reach s B path) I (parent_of s.form (opponent s) I) (ok.parents I l)
         (λ J lt. room s ok B path k (length (reply_sets s)) J (omega (arith, lt, l, e)) (omega (arith, lt, l)) (omega (arith, lt, l)))
 
 -- a step that is the action a at J
-step_is : (J a : ℕ) (o : Option Taken) → is_step o J a ≡ true → (t : Taken) × (o ≡ Some t) × (t.set ≡ J) × (t.action ≡ a)
+pub step_is : (J a : ℕ) (o : Option SetAction) → is_taken (record { set = J; action = a }) o ≡ true → (t : SetAction) × (o ≡ Some t) × (t.set ≡ J) × (t.action ≡ a)
 step_is J a None e = absurd (never e)
   where
     never : false ≡ true → ⊥
@@ -147,15 +166,15 @@ step_is J a None e = absurd (never e)
 step_is J a (Some t) e = let h = and_parts (eqb t.set J) (eqb t.action a) e in (t, refl, eqb-true t.set J h.0, eqb-true t.action a h.1)
 
 -- the allowance of a set that follows J by a
-allowance_at : (s : Strategy) → Sound s → (B : ℕ → ℤ) (path : List ℕ) (J a I : ℕ) → I < length (reply_sets s) → is_step (parent s I) J a ≡ true
-    → allowance reach s B path I ≡ pool_part (pool s B (allowance reach s B path) J a) (length (followers s path J a)) (rank (followers s path J a) I)
+allowance_at : (s : Strategy) → Sound s → (B : ℕ → ℤ) (path : List ℕ) (J a I : ℕ) → I < length (reply_sets s) → is_taken (record { set = J; action = a }) (parent_of s.form (opponent s) I) ≡ true
+    → allowance reach s B path I ≡ even_part (pool s B (allowance reach s B path) J a) (length (path_followers s path J a)) (rank (path_followers s path J a) I)
 allowance_at s ok B path J a I l e =
-    let f = step_is J a (parent s I) e in
+    let f = step_is J a (parent_of s.form (opponent s) I) e in
     let t = f.0 in
     reach_law s ok B path I l
     ∙ ap (shared s B path (allowance reach s B path) I) f.1
-    ∙ ap (λ K. pool_part (pool s B (allowance reach s B path) K t.action) (length (followers s path K t.action)) (rank (followers s path K t.action) I)) f.2
-    ∙ ap (λ b. pool_part (pool s B (allowance reach s B path) J b) (length (followers s path J b)) (rank (followers s path J b) I)) f.3
+    ∙ ap (λ K. even_part (pool s B (allowance reach s B path) K t.action) (length (path_followers s path K t.action)) (rank (path_followers s path K t.action) I)) f.2
+    ∙ ap (λ b. even_part (pool s B (allowance reach s B path) J b) (length (path_followers s path J b)) (rank (path_followers s path J b) I)) f.3
 
 -- a sum over what passes a test, where the terms are known there
 sum_filter : (p : ℕ → Bool) (h g : ℕ → ℕ) (low n : ℕ) (xs : List ℕ) → Ascends low n xs → ((x : ℕ) → x < n → p x ≡ true → h x ≡ g x) → sum_over h (filter p xs) ≡ sum_over g (filter p xs)
@@ -170,11 +189,11 @@ sum_filter p h g low n (x ∷ xs) a e = at (p x) (λ k. e x a.1 k) (sum_filter p
 pub pool_law : PoolLaw
 pool_law s ok B path asc J a some =
     let n = length (reply_sets s) in
-    let test = λ (I : ℕ). is_step (parent s I) J a in
-    let family = followers s path J a in
+    let test = λ (I : ℕ). is_taken (record { set = J; action = a }) (parent_of s.form (opponent s) I) in
+    let family = path_followers s path J a in
     let whole = pool s B (allowance reach s B path) J a in
     let m = length family in
-    let part = pool_part whole m in
+    let part = even_part whole m in
     let none : (x : ℕ) → part (rank family x) ≡ part (0 + rank family x) = λ x. ap part (omega arith) in
     sum_filter test (allowance reach s B path) (λ x. part (0 + rank family x)) 0 n path asc (λ x l e. allowance_at s ok B path J a x l e ∙ none x)
     ∙ sum_by_rank part 0 0 n family (ascends_filter test 0 n path asc)

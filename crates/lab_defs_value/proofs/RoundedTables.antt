@@ -1,4 +1,4 @@
--- Rounded tables: they are tables, and those of zeros are the even split.
+-- Rounded tables: they are tables, and those of zeros are the uniform table.
 use Rattle.std.proofs.Common.{◌≡◌, ℕ, zero, suc, ◌+◌, ◌-◌, ◌<◌, ◌≤◌, pos, List, [], ◌∷◌, ◌++◌, take, drop, replicate, length, get_or, Bool, true, false, cond, refl, sym, ap, ◌∙◌, subst, arith, zero-add}
 use Rattle.std.specs.Prelude.{ℤ, nat_le, slice_index}
 use Rattle.std.specs.List.{AllByRecursion, range_with_len}
@@ -6,13 +6,11 @@ use Rattle.std.proofs.lemmas.Bool.{leb-true}
 use Rattle.std.proofs.lemmas.List.{length-append, length-take-le, length-drop, get_or_append_left, get_or-append-add, take-replicate, drop-replicate}
 use Rattle.std.proofs.lemmas.List.Elements.{All-from_recursion}
 use Rattle.lab_math.specs.Sums.{sum_over}
-use Rattle.lab_math.specs.Below.{sum_below}
-use Rattle.lab_math.proofs.Members.{in_from_range}
-use Rattle.lab_math.proofs.NaturalSums.{sum_over-same, sum_over-places}
-use Rattle.lab_defs_game.specs.Forms.{decides}
+use Rattle.lab_math.proofs.BelowLemmas.{sum_below_cong}
+use Rattle.lab_math.proofs.NaturalSums.{sum_over-places}
 use Rattle.lab_defs_value.specs.Rounding.{rounded}
 use Rattle.lab_defs_value.specs.Tables.{weights_of, first_weight, uniform_table}
-use Rattle.lab_defs_value.specs.WholeLaws.{SumsToGrid}
+use Rattle.lab_defs_value.specs.Replies.{SumsToGrid}
 use Rattle.lab_defs_value.specs.Matching.{rounded_table, zeros}
 use Rattle.lab_defs_value.specs.MatchingLaws.{IsWhole, RoundedTableLaw, ZeroSharesLaw}
 use Rattle.lab_defs_value.proofs.UniformLemmas.{rounded_length}
@@ -63,8 +61,9 @@ table_sums grid (n ∷ ns) shares e zero l d =
     let some : weights_of n ≡ n = ap (λ b. cond b n 0) d in
     let long : length piece ≡ n = piece_long grid n ns shares e ∙ some in
     let two : 2 ≤ n = leb-true 2 n d in
-    sum_over-same (λ a. slice_index (piece ++ rest) (0 + a)) (λ a. get_or piece a 0) (range_with_len 0 n)
-    (λ a i. let r = in_from_range a 0 n i in ap (λ m. get_or (piece ++ rest) m 0) (zero-add a) ∙ get_or_append_left piece rest 0 a (subst (λ m. a < m) (sym long) (omega (arith, r.1))))
+    sum_below_cong n (λ a. slice_index (piece ++ rest) (0 + a)) (λ a. get_or piece a 0)
+    (λ a less. ap (λ m. get_or (piece ++ rest) m 0) (zero-add a) ∙ get_or_append_left piece rest 0 a (subst (λ m. a < m) (sym long) less))
+    ∙ sym (range_sum n (λ a. get_or piece a 0))
     ∙ ap (λ m. sum_over (λ a. get_or piece a 0) (range_with_len 0 m)) (sym long)
     ∙ sum_over-places (λ w. w) 0 piece
     ∙ rounded_sum grid (take (weights_of n) shares) (omega (arith, first_long n ns shares e, some, two))
@@ -74,14 +73,9 @@ table_sums grid (n ∷ ns) shares e (suc J) l d =
     let long = piece_long grid n ns shares e in
     let m = slice_index ns J in
     let place : (a : ℕ) → first_weight (n ∷ ns) (suc J) + a ≡ length piece + (first_weight ns J + a) = λ a. omega (arith, long) in
-    sum_over-same (λ a. slice_index (piece ++ rest) (first_weight (n ∷ ns) (suc J) + a)) (λ a. slice_index rest (first_weight ns J + a)) (range_with_len 0 m)
-    (λ a i. ap (λ k. get_or (piece ++ rest) k 0) (place a) ∙ get_or-append-add piece rest (first_weight ns J + a) 0)
+    sum_below_cong m (λ a. slice_index (piece ++ rest) (first_weight (n ∷ ns) (suc J) + a)) (λ a. slice_index rest (first_weight ns J + a))
+    (λ a less. ap (λ k. get_or (piece ++ rest) k 0) (place a) ∙ get_or-append-add piece rest (first_weight ns J + a) 0)
     ∙ table_sums grid ns (drop (weights_of n) shares) (rest_long n ns shares e) J (omega (arith, l)) d
-
--- what sums over the actions in order sums below their number
-pub sums_below : (grid : ℕ) (ns table : List ℕ) (J : ℕ) → SumsToGrid grid ns table → J < length ns → decides ns J ≡ true
-    → sum_below (slice_index ns J) (λ a. slice_index table (first_weight ns J + a)) ≡ grid
-sums_below grid ns table J sums l d = sym (range_sum (slice_index ns J) (λ a. slice_index table (first_weight ns J + a))) ∙ sums J l d
 
 -- rounded shares are a table
 pub rounded_whole : (grid : ℕ) (ns : List ℕ) (shares : List ℤ) → length shares ≡ all_weights ns → IsWhole grid ns (rounded_table grid ns shares)
@@ -91,7 +85,7 @@ rounded_whole grid ns shares e =
 -- the law of rounded tables
 pub rounded_table_law : RoundedTableLaw
 rounded_table_law grid ns shares e =
-    (rounded_whole grid ns shares e, λ some. (some, λ J l d. sums_below grid ns (rounded_table grid ns shares) J (table_sums grid ns shares e) l d))
+    (rounded_whole grid ns shares e, λ some. (some, table_sums grid ns shares e))
 
 -- ---- zeros
 

@@ -6,7 +6,7 @@ use Rattle.std.proofs.lemmas.Nat.{div-add-mod'}
 use Rattle.std.proofs.lemmas.Bool.{lt-ltb, le-ltb, cases_lt}
 use Rattle.lab_math.specs.Sums.{sum_over}
 use Rattle.lab_math.proofs.SumLemmas.{sum_over-replicate}
-use Rattle.lab_defs_value.specs.Rounding.{rounded, rounded_sizes, handed_out, part, share_size}
+use Rattle.lab_defs_value.specs.Rounding.{even_part, rounded, rounded_sizes, handed_out, part, share_size}
 
 -- zeros have size 0
 zero_sizes : (n : ℕ) → map share_size (replicate n (pos 0)) ≡ replicate n 0
@@ -38,7 +38,7 @@ left_is : (grid n : ℕ) → grid - sum_over (part grid n 0) (replicate n 0) ≡
 left_is grid n = omega (arith, sum_over-replicate (part grid n 0) n 0, div-add-mod' grid n)
 
 -- the weight of action a of n, where the grid is split evenly
-pub even_split : (grid n a : ℕ) → a < n → slice_index (rounded grid (replicate n (pos 0))) a ≡ grid / n + (if nat_lt a (grid % n) then 1 else 0)
+pub even_split : (grid n a : ℕ) → a < n → slice_index (rounded grid (replicate n (pos 0))) a ≡ even_part grid n a
 even_split grid n a l =
     let whole : sum_over (λ s. s) (replicate n 0) ≡ 0 = omega (arith, sum_over-replicate (λ s. s) n 0) in
     ap (λ ss. slice_index (rounded_sizes grid ss) a) (zero_sizes n)

@@ -42,10 +42,10 @@ even_parts grid many (s ∷ ss) = let rest = even_parts grid many ss in (omega (
 some_share : (whole : ℕ) → eqb (suc whole) 0 ≡ false
 some_share whole = eqb_apart (suc whole) 0 (λ e. omega (arith, e))
 
-part_is : (grid many whole s : ℕ) → part grid many (suc whole) s ≡ grid * s / suc whole
+pub part_is : (grid many whole s : ℕ) → part grid many (suc whole) s ≡ grid * s / suc whole
 part_is grid many whole s = ap (λ b. cond b (grid / many) (grid * s / suc whole)) (some_share whole)
 
-gain_is : (whole s : ℕ) → may_gain (suc whole) s ≡ nat_lt 0 s
+pub gain_is : (whole s : ℕ) → may_gain (suc whole) s ≡ nat_lt 0 s
 gain_is whole s = ap (λ b. b || nat_lt 0 s) (some_share whole)
 
 -- one unit more would be enough, and what has no share has no part

@@ -2,15 +2,15 @@
 use Rattle.std.proofs.Common.{◌≡◌, zero, suc, pos, List, [], ◌∷◌, length, refl, sym, ap, ◌∙◌, subst, inl, inr}
 use Rattle.std.specs.Prelude.{ℤ}
 use Rattle.std.proofs.lemmas.List.{length-replicate}
-use Rattle.lab_defs_game.specs.Forms.{Form, form_of}
-use Rattle.lab_defs_value.specs.Expectation.{grid_of}
+use Rattle.lab_defs_game.specs.Forms.{Form, form_of, actions_of}
+use Rattle.lab_defs_game.specs.Seats.{grid_of}
 use Rattle.lab_defs_value.specs.Subgames.{span_at, span_actions}
 use Rattle.lab_defs_value.specs.Gadgets.{gadget_form}
-use Rattle.lab_defs_value.specs.Matching.{Pair, added, at_deciding, regrets_at, reached_at, Tally, tally_start, with_pair, pair_of, tally_after}
+use Rattle.lab_defs_value.specs.Matching.{Pair, added, at_deciding, regrets_at, reached_at, Regrets, regrets_start, with_pair, pair_of, regrets_after}
 use Rattle.lab_defs_value.specs.Candidates.{candidate}
-use Rattle.lab_defs_value.specs.MatchingLaws.{IsWhole, IsTally, TallyLaw, RoundLaw, AveragesLaw, CandidateLaw, SolvedLaw}
+use Rattle.lab_defs_value.specs.MatchingLaws.{IsWhole, IsRegrets, RegretListsLaw, RoundLaw, AveragesLaw, CandidateLaw, SolvedLaw}
 use Rattle.lab_defs_value.proofs.RegretSums.{regret_law}
-use Rattle.lab_defs_value.proofs.RoundedTables.{all_weights, rounded_whole, sums_below}
+use Rattle.lab_defs_value.proofs.RoundedTables.{all_weights, rounded_whole}
 
 -- what is added changes no length
 added_long : (xs ys : List ℤ) → length (added xs ys) ≡ length xs
@@ -19,16 +19,16 @@ added_long (x ∷ xs) [] = refl
 added_long (x ∷ xs) (y ∷ ys) = ap suc (added_long xs ys)
 
 -- before the first round
-start_long : (f : Form) → IsTally f (tally_start f)
+start_long : (f : Form) → IsRegrets f (regrets_start f)
 start_long f = record {
-  regrets1 = length-replicate (all_weights f.actions1) (pos 0);
-  regrets2 = length-replicate (all_weights f.actions2) (pos 0);
-  sums1 = length-replicate (all_weights f.actions1) (pos 0);
-  sums2 = length-replicate (all_weights f.actions2) (pos 0);
+  regrets1 = length-replicate (all_weights (actions_of f 1)) (pos 0);
+  regrets2 = length-replicate (all_weights (actions_of f 2)) (pos 0);
+  sums1 = length-replicate (all_weights (actions_of f 1)) (pos 0);
+  sums2 = length-replicate (all_weights (actions_of f 2)) (pos 0);
 }
 
 -- one more round
-pair_long : (f : Form) (p : Pair) (t : Tally) → IsTally f t → IsTally f (with_pair p t)
+pair_long : (f : Form) (p : Pair) (t : Regrets) → IsRegrets f t → IsRegrets f (with_pair p t)
 pair_long f p t ok = record {
   regrets1 = added_long t.regrets1 (at_deciding p 1 (regrets_at p 1)) ∙ ok.regrets1;
   regrets2 = added_long t.regrets2 (at_deciding p 2 (regrets_at p 2)) ∙ ok.regrets2;
@@ -37,27 +37,27 @@ pair_long f p t ok = record {
 }
 
 -- after any number of rounds
-pub tally_law : TallyLaw
-tally_law grid1 grid2 f zero = start_long f
-tally_law grid1 grid2 f (suc n) = pair_long f (pair_of grid1 grid2 f (tally_after grid1 grid2 f n)) (tally_after grid1 grid2 f n) (tally_law grid1 grid2 f n)
+pub regret_lists_law : RegretListsLaw
+regret_lists_law grid1 grid2 f zero = start_long f
+regret_lists_law grid1 grid2 f (suc n) = pair_long f (pair_of grid1 grid2 f (regrets_after grid1 grid2 f n)) (regrets_after grid1 grid2 f n) (regret_lists_law grid1 grid2 f n)
 
 -- the law of rounds
 pub round_law : RoundLaw
 round_law grid1 grid2 f t ok =
     let p = pair_of grid1 grid2 f t in
-    let one = rounded_whole grid1 f.actions1 t.regrets1 ok.regrets1 in
-    let two = rounded_whole grid2 f.actions2 t.regrets2 ok.regrets2 in (
+    let one = rounded_whole grid1 (actions_of f 1) t.regrets1 ok.regrets1 in
+    let two = rounded_whole grid2 (actions_of f 2) t.regrets2 ok.regrets2 in (
       one,
       two,
-      λ I there l d. regret_law p 1 I there d (sums_below grid1 f.actions1 p.table1 I one.2 l d),
-      λ I there l d. regret_law p 2 I there d (sums_below grid2 f.actions2 p.table2 I two.2 l d),
+      λ I there l d. regret_law p 1 I there d (one.2 I l d),
+      λ I there l d. regret_law p 2 I there d (two.2 I l d),
     )
 
 -- the law of averages
 pub averages_law : AveragesLaw
 averages_law grid1 grid2 f n =
-    let ok = tally_law grid1 grid2 f n in
-    (rounded_whole grid1 f.actions1 (tally_after grid1 grid2 f n).sums1 ok.sums1, rounded_whole grid2 f.actions2 (tally_after grid1 grid2 f n).sums2 ok.sums2)
+    let ok = regret_lists_law grid1 grid2 f n in
+    (rounded_whole grid1 (actions_of f 1) (regrets_after grid1 grid2 f n).sums1 ok.sums1, rounded_whole grid2 (actions_of f 2) (regrets_after grid1 grid2 f n).sums2 ok.sums2)
 
 -- the law of candidates
 pub candidate_law : CandidateLaw

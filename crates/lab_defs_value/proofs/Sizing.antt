@@ -1,4 +1,4 @@
--- How large own weights, earnings and best values are.
+-- How large own weights, earnings and best-response values are.
 use Rattle.std.proofs.Common.{◌≡◌, ℕ, ◌+◌, ◌*◌, ◌-◌, ◌^◌, ◌<◌, ◌≤◌, ℤ, pos, ◌*ℤ◌, List, [], ◌∷◌, Bool, true, false, cond, eqb, Option, Some, None, length, get_or, refl, sym, ap, ◌∙◌, subst, arith, mul-le-mul, one-add, zero-add}
 use Rattle.std.specs.Prelude.{unsigned_abs, slice_index}
 use Rattle.std.specs.List.{All, AllByRecursion}
@@ -8,26 +8,35 @@ use Rattle.lab_math.specs.Sums.{product_over}
 use Rattle.lab_math.proofs.SumLemmas.{greatest_over_le}
 use Rattle.lab_math.proofs.BelowLemmas.{sum_below_term}
 use Rattle.lab_math.proofs.Totals.{total_filter, total_size, sum_over-mul}
-use Rattle.lab_defs_game.specs.Forms.{Taken, Row, actions_of, path_of, pad_of, decides, deciding}
-use Rattle.lab_defs_value.specs.Parents.{passes_through, path_from, parent_in, IsStepBelow, IsPath}
+use Rattle.lab_defs_game.specs.Forms.{FormSet, Row, actions_in, actions_of, path_of, pad_of, decides, deciding, parent_at, parent_of, chain}
+use Rattle.lab_defs_game.specs.Paths.{SetAction}
+use Rattle.lab_defs_value.specs.Parents.{passes_through, path_from, IsStepBelow}
+use Rattle.lab_defs_value.proofs.Chains.{IsPath, AreBelow, step_higher, chain_follows, sets_length, paths_follow}
 use Rattle.lab_defs_value.specs.Replies.{Strategy, Reply, IsReply, opponent, reply_sets, reply_factors, reply_factor, reply_by, worth_against, tail, earned}
-use Rattle.lab_defs_value.specs.BestValues.{IsBest, best_value}
-use Rattle.lab_defs_value.specs.Laws.{Sound, worth_sizes, SizeLaw}
+use Rattle.lab_defs_value.specs.BestValues.{IsBest, best_response_value}
+use Rattle.lab_defs_value.specs.Laws.{Sound, worth_sizes, WorthSizeLaw}
 use Rattle.lab_defs_value.proofs.Tails.{pow_join}
 use Rattle.lab_defs_value.proofs.Bests.{one_pow}
 use Rattle.lab_defs_value.proofs.PureReplies.{best_value_law}
 
 -- each step of a path is there
-abbrev pub Steps : List ℕ → List Taken → Type 0
+abbrev pub Steps : List ℕ → List SetAction → Type 0
 Steps ns path = AllByRecursion (λ t. IsStepBelow ns (length ns) (Some t)) path
 
 -- so are those of a path of a form
-pub steps_of : (ns : List ℕ) (parent : ℕ → Option Taken) (before : Option Taken) (path : List Taken) → IsPath ns parent before path → Steps ns path
+pub steps_of : (ns : List ℕ) (parent : ℕ → Option SetAction) (before : Option SetAction) (path : List SetAction) → IsPath ns parent before path → Steps ns path
 steps_of ns parent before [] h = tt
 steps_of ns parent before (t ∷ ts) h = (h.2, steps_of ns parent (Some t) ts h.3)
 
--- and of a part of it
-pub steps_from : (ns : List ℕ) (I : ℕ) (path : List Taken) → Steps ns path → Steps ns (path_from I path)
+-- and of the chain of parents that leads to a set
+pub chain_steps : (sets : List FormSet) → AreBelow sets → (I : ℕ) → I < length sets → Steps (actions_in sets) (chain sets (parent_at sets I))
+chain_steps sets below I l =
+    let low : I < length (actions_in sets) = omega (arith, l, sets_length sets) in
+    steps_of (actions_in sets) (parent_at sets) None (chain sets (parent_at sets I))
+    (chain_follows sets below (length sets) (parent_at sets I) (omega (arith, sets_length sets)) (step_higher (actions_in sets) I (length sets) (parent_at sets I) (omega (arith, l)) (below I low))).0
+
+-- and of a part of a path
+pub steps_from : (ns : List ℕ) (I : ℕ) (path : List SetAction) → Steps ns path → Steps ns (path_from I path)
 steps_from ns I [] h = tt
 steps_from ns I (t ∷ ts) h = at (eqb t.set I) (steps_from ns I ts h.1)
   where
@@ -36,7 +45,7 @@ steps_from ns I (t ∷ ts) h = at (eqb t.set I) (steps_from ns I ts h.1)
     at false rest = rest
 
 -- a part of a path has at most its decisions
-deciding_from : (ns : List ℕ) (I : ℕ) (path : List Taken) → deciding ns (path_from I path) ≤ deciding ns path
+deciding_from : (ns : List ℕ) (I : ℕ) (path : List SetAction) → deciding ns (path_from I path) ≤ deciding ns path
 deciding_from ns I [] = omega arith
 deciding_from ns I (t ∷ ts) = at (eqb t.set I) (deciding_from ns I ts)
   where
@@ -45,7 +54,7 @@ deciding_from ns I (t ∷ ts) = at (eqb t.set I) (deciding_from ns I ts)
     at false rest = omega (arith, rest)
 
 -- the weights on a path are at most the reply's number to its decisions
-pub product_le : (ns : List ℕ) (r : Reply) → IsReply ns r → (path : List Taken) → Steps ns path → product_over (reply_factor ns r) path ≤ r.all ^ deciding ns path
+pub product_le : (ns : List ℕ) (r : Reply) → IsReply ns r → (path : List SetAction) → Steps ns path → product_over (reply_factor ns r) path ≤ r.all ^ deciding ns path
 product_le ns r isr [] h = le_of_eq (sym (pow-zero r.all))
 product_le ns r isr (t ∷ ts) h = at (decides ns t.set) refl (product_le ns r isr ts h.1)
   where
@@ -59,7 +68,7 @@ product_le ns r isr (t ∷ ts) h = at (decides ns t.set) refl (product_le ns r i
     at false e rest = rw zero-add (omega (arith, rest))
 
 -- a tail is at most the reply's number to its factors
-tail_le : (ns : List ℕ) (m : ℕ) (r : Reply) → IsReply ns r → (I : ℕ) (path : List Taken) → Steps ns path → deciding ns path ≤ m → tail ns m r I path ≤ r.all ^ m
+tail_le : (ns : List ℕ) (m : ℕ) (r : Reply) → IsReply ns r → (I : ℕ) (path : List SetAction) → Steps ns path → deciding ns path ≤ m → tail ns m r I path ≤ r.all ^ m
 tail_le ns m r isr I path h few =
     let d = deciding ns (path_from I path) in
     let whole : r.all ^ d * r.all ^ (m - d) ≡ r.all ^ m = pow_join r.all d (m - d) m (omega (arith, deciding_from ns I path, few)) in
@@ -78,7 +87,7 @@ earned_size s ok I r isr =
     let through = λ (z : Row). passes_through I (path_of z o) in
     let value = λ (z : Row). worth_against s z *ℤ pos (tail ns m r I (path_of z o)) in
     let rows : All (FewSteps s m) s.form.rows = λ k d l. (
-      steps_of ns (parent_in s.form.rows o) None (path_of (get_or s.form.rows k d) o) (ok.paths k d l),
+      steps_of ns (parent_of s.form o) None (path_of (get_or s.form.rows k d) o) (paths_follow s.form o ok k d l),
       greatest_over_le (λ (z : Row). deciding ns (path_of z o) + pad_of z o) s.form.rows k d l,
     ) in
     let sizes = total_size (FewSteps s m) (λ z. cond (through z) (value z) (pos 0)) (λ z. r.all ^ m * unsigned_abs (worth_against s z)) s.form.rows rows
@@ -92,10 +101,10 @@ earned_size s ok I r isr =
         omega (arith, size, le)
     at false w t n h = omega arith
 
--- best values are at most that
-best_size : (s : Strategy) → Sound s → (I : ℕ) → I < length (reply_sets s) → unsigned_abs (best_value s I) ≤ worth_sizes s
+-- best-response values are at most that
+best_size : (s : Strategy) → Sound s → (I : ℕ) → I < length (reply_sets s) → unsigned_abs (best_response_value s I) ≤ worth_sizes s
 best_size s ok I l =
-    let b : IsBest s I (best_value s I) = (best_value_law s ok).0 I l in
+    let b : IsBest s I (best_response_value s I) = (best_value_law s ok).0 I l in
     let r = b.earns.0 in
     let m = reply_factors s in
     let size = earned_size s ok I r b.earns.1 in
@@ -104,13 +113,13 @@ best_size s ok I l =
     subst (λ t. unsigned_abs t ≤ worth_sizes s) b.earns.3 (subst (λ k. unsigned_abs (earned s r I) ≤ k) same size)
 
 -- the law of sizes
-pub size_law : SizeLaw
+pub size_law : WorthSizeLaw
 size_law = (
   λ f seat grid table ok tab k d l.
       let ns = actions_of f seat in
       let z = get_or f.rows k d in
       let path = path_of z seat in
-      let product = product_le ns (reply_by grid ns table) tab path (steps_of ns (parent_in f.rows seat) None path (ok.paths k d l)) in
+      let product = product_le ns (reply_by grid ns table) tab path (steps_of ns (parent_of f seat) None path (paths_follow f seat ok k d l)) in
       subst (λ x. product_over (reply_factor ns (reply_by grid ns table)) path * grid ^ pad_of z seat ≤ x) (pow_join grid (deciding ns path) (pad_of z seat) (deciding ns path + pad_of z seat) refl) (mul-le-mul product (le_of_eq refl)),
   λ s ok I. (earned_size s ok I, best_size s ok I),
 )

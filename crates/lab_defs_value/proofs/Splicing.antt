@@ -5,16 +5,18 @@ use Rattle.std.proofs.lemmas.Bool.{and_parts, leb-true, ltb-true}
 use Rattle.std.proofs.lemmas.List.{get_or_append_left, get_or-append_right, get_or-take, get_or-drop, length-drop}
 use Rattle.lab_math.specs.Sums.{sum_over, product_over}
 use Rattle.lab_math.proofs.Totals.{total_filter, total_cong_all}
-use Rattle.lab_defs_game.specs.Forms.{Taken, Row, actions_of, path_of, pad_of, decides}
+use Rattle.lab_defs_game.specs.Forms.{Row, actions_of, path_of, pad_of, decides, parent_of}
+use Rattle.lab_defs_game.specs.Paths.{SetAction}
 use Rattle.lab_defs_value.specs.Tables.{weights_of, first_weight, factor}
-use Rattle.lab_defs_value.specs.Parents.{passes_through, parent_in, IsPath}
+use Rattle.lab_defs_value.specs.Parents.{passes_through}
+use Rattle.lab_defs_value.proofs.Chains.{IsPath, paths_follow}
 use Rattle.lab_defs_value.specs.Replies.{Strategy, opponent, reply_sets, reply_factors, worth_to, worth_against, tail}
 use Rattle.lab_defs_value.specs.Splices.{FitsSpan, spliced, with_table, stays_outside}
 use Rattle.lab_defs_value.specs.Laws.{SpliceLaw, StayLaw}
 
 -- ---- the places of weights
 
--- the weights of a set stand before those of the next one
+-- the weights of a set come before those of the next one
 first_weight_next : (ns : List ℕ) (J : ℕ) → J < length ns → first_weight ns (suc J) ≡ first_weight ns J + weights_of (slice_index ns J)
 first_weight_next [] J l = absurd (omega (arith, l))
 first_weight_next (n ∷ ns) zero l = omega arith
@@ -38,7 +40,7 @@ decides_there [] (suc J) e = cc
 decides_there (n ∷ ns) zero e = omega arith
 decides_there (n ∷ ns) (suc J) e = omega (arith, decides_there ns J e)
 
--- the weight of an action at a deciding set stands before those of each later set
+-- the weight of an action at a deciding set comes before those of each later set
 weight_before : (ns : List ℕ) (J K a : ℕ) → decides ns J ≡ true → a < slice_index ns J → J < K → first_weight ns J + a < first_weight ns K
 weight_before ns J K a e l h =
     let next = first_weight_next ns J (decides_there ns J e) in
@@ -88,7 +90,7 @@ places_of ns start end table proposal f = record {
 }
 
 -- outside the span the factors are the table's
-pub factor_outside : (ns : List ℕ) (start end : ℕ) (table proposal : List ℕ) → FitsSpan ns start end table proposal → (t : Taken) → t.action < slice_index ns t.set
+pub factor_outside : (ns : List ℕ) (start end : ℕ) (table proposal : List ℕ) → FitsSpan ns start end table proposal → (t : SetAction) → t.action < slice_index ns t.set
     → (nat_lt t.set start || nat_le end t.set) ≡ true → factor ns (spliced ns start end table proposal) t ≡ factor ns table t
 factor_outside ns start end table proposal f t l out = by (decides ns t.set) refl
   where
@@ -123,7 +125,7 @@ splice_law ns start end table proposal f =
 -- ---- rows that stay outside
 
 -- two tables have one product on a path that stays outside
-product_outside : (ns : List ℕ) (parent : ℕ → Option Taken) (start end : ℕ) (table proposal : List ℕ) → FitsSpan ns start end table proposal → (before : Option Taken) (path : List Taken)
+product_outside : (ns : List ℕ) (parent : ℕ → Option SetAction) (start end : ℕ) (table proposal : List ℕ) → FitsSpan ns start end table proposal → (before : Option SetAction) (path : List SetAction)
     → IsPath ns parent before path → stays_outside start end path ≡ true → product_over (factor ns (spliced ns start end table proposal)) path ≡ product_over (factor ns table) path
 product_outside ns parent start end table proposal f before [] h out = refl
 product_outside ns parent start end table proposal f before (t ∷ ts) h out =
@@ -137,14 +139,14 @@ spliced_strategy s start end proposal = with_table s (spliced (actions_of s.form
 
 -- the keeper's path on a row follows parents
 abbrev pub HasOwnPath : Strategy → Row → Type 0
-HasOwnPath s z = IsPath (actions_of s.form s.keeper) (parent_in s.form.rows s.keeper) None (path_of z s.keeper)
+HasOwnPath s z = IsPath (actions_of s.form s.keeper) (parent_of s.form s.keeper) None (path_of z s.keeper)
 
 -- a row whose keeper's path stays outside is worth the same
 pub worth_outside : (s : Strategy) (start end : ℕ) (proposal : List ℕ) → FitsSpan (actions_of s.form s.keeper) start end s.table proposal → (z : Row) → HasOwnPath s z
     → stays_outside start end (path_of z s.keeper) ≡ true → worth_against (spliced_strategy s start end proposal) z ≡ worth_against s z
 worth_outside s start end proposal f z h out =
     ap (λ x. worth_to (opponent s) z.worth *ℤ pos (x * s.grid ^ pad_of z s.keeper))
-    (product_outside (actions_of s.form s.keeper) (parent_in s.form.rows s.keeper) start end s.table proposal f None (path_of z s.keeper) h out)
+    (product_outside (actions_of s.form s.keeper) (parent_of s.form s.keeper) start end s.table proposal f None (path_of z s.keeper) h out)
 
 -- the law of what stays
 pub stay_law : StayLaw
@@ -156,7 +158,7 @@ stay_law s keeps start end proposal f I out r =
     let through = λ (z : Row). passes_through I (path_of z o) in
     total_filter through (λ z. worth_against s' z *ℤ pos (tail_at z)) s.form.rows
     ∙ total_cong_all (λ z. HasOwnPath s z × (through z ≡ true → stays_outside start end (path_of z s.keeper) ≡ true)) _ (λ z. cond (through z) (worth_against s z *ℤ pos (tail_at z)) (pos 0)) s.form.rows
-    (λ k d l. (keeps.paths k d l, out k d l))
+    (λ k d l. (paths_follow s.form s.keeper keeps k d l, out k d l))
     (λ z h. at z (through z) (tail_at z) h.0 h.1)
     ∙ sym (total_filter through (λ z. worth_against s z *ℤ pos (tail_at z)) s.form.rows)
   where

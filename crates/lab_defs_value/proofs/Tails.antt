@@ -4,30 +4,31 @@ use Rattle.std.proofs.lemmas.Bool.{cases_eq}
 use Rattle.lab_math.specs.Sums.{product_over}
 use Rattle.lab_math.specs.Below.{sum_below}
 use Rattle.lab_math.proofs.BelowLemmas.{eqb_apart, sum_below_cong, sum_below_add, sum_below_mul, sum_below_zero, sum_below_pick, sum_below_one_more}
-use Rattle.lab_defs_game.specs.Forms.{Taken, decides, deciding}
-use Rattle.lab_defs_value.specs.Parents.{passes_through, is_step}
+use Rattle.lab_defs_game.specs.Forms.{decides, deciding}
+use Rattle.lab_defs_game.specs.Paths.{SetAction, is_taken}
+use Rattle.lab_defs_value.specs.Parents.{passes_through}
 use Rattle.lab_defs_value.specs.Replies.{Reply, reply_factor}
-use Rattle.lab_defs_value.proofs.Views.{View, actions_at, from_set, tail_back}
+use Rattle.lab_defs_value.proofs.StepForms.{StepForm, actions_at, from_set, tail_back}
 
 -- the weight of an action, where a pass has the reply's number for its only one
-abbrev pub full_weight : View → Reply → ℕ → ℕ → ℕ
+abbrev pub full_weight : StepForm → Reply → ℕ → ℕ → ℕ
 full_weight v r J a = cond (decides v.actions J) (r.weight J a) r.all
 
 -- the weights from the set K on, with the reply's number for each decision before
-abbrev pub mass : View → Reply → ℕ → List Taken → ℕ
+abbrev pub mass : StepForm → Reply → ℕ → List SetAction → ℕ
 mass v r K [] = 0
 mass v r K (s ∷ t) = reply_factor v.actions r s * (mass v r K t + cond (eqb s.set K) (r.all ^ deciding v.actions t) 0)
 
 -- the list is the steps back from `last`, at sets below k, each lower than the one before it in the list
-abbrev pub IsTrail : View → ℕ → Option Taken → List Taken → Type 0
+abbrev pub IsTrail : StepForm → ℕ → Option SetAction → List SetAction → Type 0
 IsTrail v k last [] = last ≡ None
 IsTrail v k last (s ∷ t) = (last ≡ Some s) × (s.set < k) × (s.action < actions_at v s.set) × IsTrail v s.set (v.parent s.set) t
 
 -- what follows I by one of its actions, on one trail
-abbrev pub next_mass : View → Reply → ℕ → Option Taken → List Taken → ℕ → ℕ
+abbrev pub next_mass : StepForm → Reply → ℕ → Option SetAction → List SetAction → ℕ → ℕ
 next_mass v r I last t a =
-    sum_below (length v.actions) (λ K. cond (is_step (v.parent K) I a) (mass v r K t) 0)
-    + cond (is_step last I a) (r.all ^ deciding v.actions t) 0
+    sum_below (length v.actions) (λ K. cond (is_taken (record { set = I; action = a }) (v.parent K)) (mass v r K t) 0)
+    + cond (is_taken (record { set = I; action = a }) last) (r.all ^ deciding v.actions t) 0
 
 -- a condition between equals
 pub cond_same : (b : Bool) (x : ℕ) → cond b x x ≡ x
@@ -35,29 +36,29 @@ cond_same true x = refl
 cond_same false x = refl
 
 -- nothing follows on a row without steps
-nil_mass : (v : View) (r : Reply) (I : ℕ) (last : Option Taken) → last ≡ None → (a : ℕ) → full_weight v r I a * next_mass v r I last [] a ≡ 0
+nil_mass : (v : StepForm) (r : Reply) (I : ℕ) (last : Option SetAction) → last ≡ None → (a : ℕ) → full_weight v r I a * next_mass v r I last [] a ≡ 0
 nil_mass v r I last e a =
-    let inner : sum_below (length v.actions) (λ K. cond (is_step (v.parent K) I a) (mass v r K []) 0) ≡ 0 =
-    sum_below_cong (length v.actions) _ (λ K. 0) (λ K l. cond_same (is_step (v.parent K) I a) 0) ∙ sum_below_zero (length v.actions) in
-    let end : cond (is_step last I a) (r.all ^ 0) 0 ≡ 0 = ap (λ l. cond (is_step l I a) (r.all ^ 0) 0) e in
-    let both : next_mass v r I last [] a ≡ 0 = ap (λ x. x + cond (is_step last I a) (r.all ^ 0) 0) inner ∙ ap (λ x. 0 + x) end in
+    let inner : sum_below (length v.actions) (λ K. cond (is_taken (record { set = I; action = a }) (v.parent K)) (mass v r K []) 0) ≡ 0 =
+    sum_below_cong (length v.actions) _ (λ K. 0) (λ K l. cond_same (is_taken (record { set = I; action = a }) (v.parent K)) 0) ∙ sum_below_zero (length v.actions) in
+    let end : cond (is_taken (record { set = I; action = a }) last) (r.all ^ 0) 0 ≡ 0 = ap (λ l. cond (is_taken (record { set = I; action = a }) l) (r.all ^ 0) 0) e in
+    let both : next_mass v r I last [] a ≡ 0 = ap (λ x. x + cond (is_taken (record { set = I; action = a }) last) (r.all ^ 0) 0) inner ∙ ap (λ x. 0 + x) end in
     ap (λ t. full_weight v r I a * t) both ∙ omega arith
 
 -- one more step on the trail
-cons_mass : (v : View) (r : Reply) (I : ℕ) (last : Option Taken) (s : Taken) (t : List Taken) → s.set < length v.actions → (a : ℕ)
+cons_mass : (v : StepForm) (r : Reply) (I : ℕ) (last : Option SetAction) (s : SetAction) (t : List SetAction) → s.set < length v.actions → (a : ℕ)
     → full_weight v r I a * next_mass v r I last (s ∷ t) a
-    ≡ reply_factor v.actions r s * (full_weight v r I a * next_mass v r I (v.parent s.set) t a) + full_weight v r I a * cond (is_step last I a) (r.all ^ deciding v.actions (s ∷ t)) 0
+    ≡ reply_factor v.actions r s * (full_weight v r I a * next_mass v r I (v.parent s.set) t a) + full_weight v r I a * cond (is_taken (record { set = I; action = a }) last) (r.all ^ deciding v.actions (s ∷ t)) 0
 cons_mass v r I last s t l a =
-    let inner = sum_below_one_more (length v.actions) s.set (reply_factor v.actions r s) (r.all ^ deciding v.actions t) (λ K. is_step (v.parent K) I a) (λ K. mass v r K t) l in
-    ap (λ x. full_weight v r I a * (x + cond (is_step last I a) (r.all ^ deciding v.actions (s ∷ t)) 0)) inner
-    ∙ spread (full_weight v r I a) (reply_factor v.actions r s) (next_mass v r I (v.parent s.set) t a) (cond (is_step last I a) (r.all ^ deciding v.actions (s ∷ t)) 0)
+    let inner = sum_below_one_more (length v.actions) s.set (reply_factor v.actions r s) (r.all ^ deciding v.actions t) (λ K. is_taken (record { set = I; action = a }) (v.parent K)) (λ K. mass v r K t) l in
+    ap (λ x. full_weight v r I a * (x + cond (is_taken (record { set = I; action = a }) last) (r.all ^ deciding v.actions (s ∷ t)) 0)) inner
+    ∙ spread (full_weight v r I a) (reply_factor v.actions r s) (next_mass v r I (v.parent s.set) t a) (cond (is_taken (record { set = I; action = a }) last) (r.all ^ deciding v.actions (s ∷ t)) 0)
   where
     spread : (g c x y : ℕ) → g * (c * x + y) ≡ c * (g * x) + g * y
     spread g c x y = omega arith
 
 -- of the actions of I only that of s counts, if s is taken at I
-pick_step : (n I E : ℕ) (g : ℕ → ℕ) (s : Taken) → (s.set ≡ I → s.action < n)
-    → sum_below n (λ a. g a * cond (is_step (Some s) I a) E 0) ≡ cond (eqb s.set I) (g s.action * E) 0
+pick_step : (n I E : ℕ) (g : ℕ → ℕ) (s : SetAction) → (s.set ≡ I → s.action < n)
+    → sum_below n (λ a. g a * cond (is_taken (record { set = I; action = a }) (Some s)) E 0) ≡ cond (eqb s.set I) (g s.action * E) 0
 pick_step n I E g s l = elim (cases_eq s.set I) [
   | inl e ↦
       let yes : eqb s.set I ≡ true = eq-eqb s.set I e in
@@ -97,7 +98,7 @@ cond_at J I x = elim (cases_eq J I) [
 ]
 
 -- the mass at I, times the reply's number, is that of what follows I, by the weight of the action between
-pub mass_splits : (v : View) (r : Reply) (I k : ℕ) (last : Option Taken) (t : List Taken) → k ≤ length v.actions → IsTrail v k last t
+pub mass_splits : (v : StepForm) (r : Reply) (I k : ℕ) (last : Option SetAction) (t : List SetAction) → k ≤ length v.actions → IsTrail v k last t
     → r.all * mass v r I t ≡ sum_below (actions_at v I) (λ a. full_weight v r I a * next_mass v r I last t a)
 mass_splits v r I k last [] le h =
     let z : r.all * 0 ≡ 0 = omega arith in
@@ -107,22 +108,22 @@ mass_splits v r I k last (s ∷ t) le h =
     let e = r.all ^ deciding v.actions t in
     let c = reply_factor v.actions r s in
     let g = full_weight v r I in
-    let by_step = sum_below_cong (actions_at v I) _ (λ a. c * (g a * next_mass v r I (v.parent s.set) t a) + g a * cond (is_step last I a) E 0) (λ a l. cons_mass v r I last s t (omega (arith, h.1)) a) in
-    let apart = sum_below_add (actions_at v I) (λ a. c * (g a * next_mass v r I (v.parent s.set) t a)) (λ a. g a * cond (is_step last I a) E 0) in
+    let by_step = sum_below_cong (actions_at v I) _ (λ a. c * (g a * next_mass v r I (v.parent s.set) t a) + g a * cond (is_taken (record { set = I; action = a }) last) E 0) (λ a l. cons_mass v r I last s t (omega (arith, h.1)) a) in
+    let apart = sum_below_add (actions_at v I) (λ a. c * (g a * next_mass v r I (v.parent s.set) t a)) (λ a. g a * cond (is_taken (record { set = I; action = a }) last) E 0) in
     let first = sum_below_mul (actions_at v I) c (λ a. g a * next_mass v r I (v.parent s.set) t a) in
     let before = mass_splits v r I s.set (v.parent s.set) t (omega (arith, h.1)) h.3 in
-    let at_s : sum_below (actions_at v I) (λ a. g a * cond (is_step last I a) E 0) ≡ cond (eqb s.set I) (g s.action * E) 0 =
-    subst (λ l. sum_below (actions_at v I) (λ a. g a * cond (is_step l I a) E 0) ≡ cond (eqb s.set I) (g s.action * E) 0) (sym h.0)
+    let at_s : sum_below (actions_at v I) (λ a. g a * cond (is_taken (record { set = I; action = a }) last) E 0) ≡ cond (eqb s.set I) (g s.action * E) 0 =
+    subst (λ l. sum_below (actions_at v I) (λ a. g a * cond (is_taken (record { set = I; action = a }) l) E 0) ≡ cond (eqb s.set I) (g s.action * E) 0) (sym h.0)
     (pick_step (actions_at v I) I E g s (λ k. subst (λ J. s.action < actions_at v J) k h.2)) in
     let same_set : cond (eqb s.set I) (g s.action * E) 0 ≡ cond (eqb s.set I) (full_weight v r s.set s.action * E) 0 = cond_at s.set I (λ J. full_weight v r J s.action * E) in
-    sym (by_step ∙ apart ∙ ap (λ x. x + sum_below (actions_at v I) (λ a. g a * cond (is_step last I a) E 0)) (first ∙ ap (λ x. c * x) (sym before))
+    sym (by_step ∙ apart ∙ ap (λ x. x + sum_below (actions_at v I) (λ a. g a * cond (is_taken (record { set = I; action = a }) last) E 0)) (first ∙ ap (λ x. c * x) (sym before))
     ∙ ap (λ x. c * (r.all * mass v r I t) + x) (at_s ∙ same_set)
     ∙ join (eqb s.set I) r.all c (mass v r I t) e (full_weight v r s.set s.action * E) (full_is (decides v.actions s.set) (r.weight s.set s.action) r.all (deciding v.actions t)))
 
 -- ---- the tail is that mass, made up to m factors
 
 -- a trail that stays below I has no mass there
-pub mass_absent : (v : View) (r : Reply) (I k : ℕ) (last : Option Taken) (t : List Taken) → k ≤ I → IsTrail v k last t → mass v r I t ≡ 0
+pub mass_absent : (v : StepForm) (r : Reply) (I k : ℕ) (last : Option SetAction) (t : List SetAction) → k ≤ I → IsTrail v k last t → mass v r I t ≡ 0
 mass_absent v r I k last [] le h = refl
 mass_absent v r I k last (s ∷ t) le h =
     let rest = mass_absent v r I s.set (v.parent s.set) t (omega (arith, h.1)) h.3 in
@@ -153,7 +154,7 @@ pub pow_join : (N d k m : ℕ) → d + k ≡ m → N ^ d * N ^ k ≡ N ^ m
 pow_join N d k m e = sym (pow-add N d k) ∙ ap (λ x. N ^ x) e
 
 -- the tail is the mass, made up to m factors
-pub tail_is : (v : View) (m : ℕ) (r : Reply) (I k : ℕ) (last : Option Taken) (t : List Taken) → IsTrail v k last t → deciding v.actions t ≤ m
+pub tail_is : (v : StepForm) (m : ℕ) (r : Reply) (I k : ℕ) (last : Option SetAction) (t : List SetAction) → IsTrail v k last t → deciding v.actions t ≤ m
     → cond (passes_through I t) (tail_back v m r I t) 0 ≡ mass v r I t * r.all ^ (m - deciding v.actions t)
 tail_is v m r I k last [] h le = omega arith
 tail_is v m r I k last (s ∷ t) h le =

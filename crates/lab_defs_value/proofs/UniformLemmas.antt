@@ -1,20 +1,17 @@
--- The even split is a table: its weights sum to the grid at each deciding set.
-use Rattle.std.proofs.Common.{◌≡◌, ℕ, zero, suc, ◌+◌, ◌-◌, ◌*◌, ◌/◌, ◌%◌, ◌<◌, ◌≤◌, pos, ℤ, List, [], ◌∷◌, map, flat_map, take, length, get_or, replicate, Bool, true, false, cond, refl, sym, ap, ◌∙◌, subst, arith, inl, inr, ◌⊎◌}
+-- The uniform table is a table: its weights sum to the grid at each deciding set.
+use Rattle.std.proofs.Common.{◌≡◌, ℕ, suc, ◌+◌, ◌-◌, ◌<◌, ◌≤◌, pos, ℤ, List, [], ◌∷◌, map, flat_map, take, length, get_or, replicate, Bool, true, false, cond, refl, sym, ap, ◌∙◌, subst, arith}
 use Rattle.std.specs.Prelude.{◌&&◌, nat_lt, nat_le, if◌then◌else◌, slice_index}
-use Rattle.std.specs.List.{range_with_len}
 use Rattle.std.proofs.lemmas.List.{length-append, length-map, length-replicate}
 use Rattle.std.proofs.lemmas.List.Concat.{get_or-flat_map}
-use Rattle.std.proofs.lemmas.Nat.{div-add-mod'}
-use Rattle.std.proofs.Math.Nat.{mod-lt}
-use Rattle.std.proofs.lemmas.Bool.{lt-ltb, le-ltb, leb-true, cases_lt}
+use Rattle.std.proofs.lemmas.Bool.{leb-true}
 use Rattle.lab_math.specs.Sums.{sum_over}
-use Rattle.lab_math.proofs.Members.{in_from_range}
-use Rattle.lab_math.proofs.NaturalSums.{sum_over-same}
+use Rattle.lab_math.proofs.BelowLemmas.{sum_below_cong}
 use Rattle.lab_defs_game.specs.Forms.{decides}
-use Rattle.lab_defs_value.specs.Rounding.{rounded, handed_out, share_size, part, may_gain}
+use Rattle.lab_defs_value.specs.Rounding.{even_part, rounded, handed_out, share_size, part, may_gain}
 use Rattle.lab_defs_value.specs.Tables.{weights_of, first_weight, uniform_table}
 use Rattle.lab_defs_value.specs.WholeLaws.{UniformLaw}
 use Rattle.lab_defs_value.proofs.RoundingLemmas.{even_split}
+use Rattle.lab_defs_value.proofs.Pools.{parts_sum}
 
 -- as many are handed out as there are shares
 handed_length : (grid many whole left : ℕ) (ss : List ℕ) → length (handed_out grid many whole left ss) ≡ length ss
@@ -39,26 +36,16 @@ split_length grid n = at (nat_le 2 n)
     at true = rounded_length grid (replicate n (pos 0)) ∙ length-replicate n (pos 0)
     at false = refl
 
--- the weights of the first sets are as many as stand before those of the next
+-- the weights of the first sets are as many as are before those of the next
 before_length : (grid : ℕ) (ns : List ℕ) → length (flat_map (split_at grid) ns) ≡ sum_over weights_of ns
 before_length grid [] = refl
 before_length grid (n ∷ ns) =
     length-append (split_at grid n) (flat_map (split_at grid) ns)
     ∙ ap (λ m. m + length (flat_map (split_at grid) ns)) (split_length grid n) ∙ ap (λ m. weights_of n + m) (before_length grid ns)
 
--- of n items from a on, those below r have one more
-counted : (q r a n : ℕ) → r ≤ a + n → sum_over (λ i. q + (if nat_lt i r then 1 else 0)) (range_with_len a n) ≡ n * q + (r - a)
-counted q r a zero l = omega (arith, l)
-counted q r a (suc n) l = at (cases_lt a r) (counted q r (a + 1) n (omega (arith, l)))
-  where
-    at : (a < r) ⊎ (r ≤ a) → sum_over (λ i. q + (if nat_lt i r then 1 else 0)) (range_with_len (a + 1) n) ≡ n * q + (r - (a + 1))
-        → (q + (if nat_lt a r then 1 else 0)) + sum_over (λ i. q + (if nat_lt i r then 1 else 0)) (range_with_len (a + 1) n) ≡ suc n * q + (r - a)
-    at (inl lt) e = ap (λ b. (q + cond b 1 0) + sum_over (λ i. q + (if nat_lt i r then 1 else 0)) (range_with_len (a + 1) n)) (lt-ltb a r lt) ∙ omega (arith, e, lt)
-    at (inr le) e = ap (λ b. (q + cond b 1 0) + sum_over (λ i. q + (if nat_lt i r then 1 else 0)) (range_with_len (a + 1) n)) (le-ltb a r le) ∙ omega (arith, e, le)
-
 -- the weight of an action of a deciding set
 pub weight_is : (grid : ℕ) (actions : List ℕ) (set a : ℕ) → set < length actions → decides actions set ≡ true → a < slice_index actions set
-    → slice_index (uniform_table grid actions) (first_weight actions set + a) ≡ grid / slice_index actions set + (if nat_lt a (grid % slice_index actions set) then 1 else 0)
+    → slice_index (uniform_table grid actions) (first_weight actions set + a) ≡ even_part grid (slice_index actions set) a
 weight_is grid actions set a l d la =
     let n = slice_index actions set in
     let here : split_at grid n ≡ rounded grid (replicate n (pos 0)) = ap (λ b. cond b (rounded grid (replicate n (pos 0))) []) d in
@@ -68,16 +55,10 @@ weight_is grid actions set a l d la =
     ∙ ap (λ ws. get_or ws a 0) here
     ∙ even_split grid n a la
 
--- over all actions of a deciding set
-shares_whole : (grid n : ℕ) → 2 ≤ n → sum_over (λ a. grid / n + (if nat_lt a (grid % n) then 1 else 0)) (range_with_len 0 n) ≡ grid
-shares_whole grid n l =
-    let less : grid % n < n = mod-lt grid (omega (arith, l)) in
-    counted (grid / n) (grid % n) 0 n (omega (arith, less)) ∙ omega (arith, div-add-mod' grid n)
-
--- the law of the even split
+-- the law of the uniform table
 pub uniform_law : UniformLaw
 uniform_law grid actions set l d =
     let n = slice_index actions set in
-    sum_over-same (λ a. slice_index (uniform_table grid actions) (first_weight actions set + a)) (λ a. grid / n + (if nat_lt a (grid % n) then 1 else 0)) (range_with_len 0 n)
-    (λ a i. let r = in_from_range a 0 n i in weight_is grid actions set a l d (omega (arith, r.1)))
-    ∙ shares_whole grid n (leb-true 2 n d)
+    let two : 2 ≤ n = leb-true 2 n d in
+    sum_below_cong n (λ a. slice_index (uniform_table grid actions) (first_weight actions set + a)) (even_part grid n) (λ a less. weight_is grid actions set a l d less)
+    ∙ parts_sum grid n (omega (arith, two))

@@ -4,27 +4,31 @@ use Rattle.std.specs.Prelude.{◌==◌, nat_le, if◌then◌else◌, slice_index
 use Rattle.std.specs.List.{range_with_len}
 use Rattle.std.proofs.Math.Nat.{pow-succ'}
 use Rattle.std.proofs.lemmas.Bool.{leb-false}
-use Rattle.std.proofs.lemmas.List.{append_assoc, append-nil, length-map}
+use Rattle.std.proofs.lemmas.List.{append_assoc, append-nil}
 use Rattle.lab_math.specs.Sums.{sum_over, product_over}
 use Rattle.lab_math.proofs.Members.{In, in_from_range}
 use Rattle.lab_math.proofs.NaturalSums.{sum_over-map, sum_over-flat_map, sum_over-same, sum_over-times, sum_over-times_behind, sum_over-places}
 use Rattle.lab_defs_text.specs.Games.{GameModel, Place, Outcome}
 use Rattle.lab_defs_text.specs.Texts.{game_ok, place_at, is_world}
 use Rattle.lab_defs_game.specs.Histories.{History, Step, actions_at, row_of, place_of, reached, outcome_of, steps_of, histories, inner_histories}
-use Rattle.lab_defs_game.specs.Sets.{seen, sets, set_number, set_actions, most_decisions}
+use Rattle.lab_defs_game.specs.Sets.{seen, set_number, most_decisions}
 use Rattle.lab_defs_game.specs.Chance.{row_total, chance_unit, units_from, chance_from, chance}
-use Rattle.lab_defs_game.specs.Forms.{Taken, game_actions, path_along, decides, deciding}
+use Rattle.lab_defs_game.specs.Forms.{game_actions, decides, deciding}
+use Rattle.lab_defs_game.specs.Paths.{SetAction, path_along}
 use Rattle.lab_defs_game.specs.Unfolding.{unfold_fault}
 use Rattle.lab_defs_game.specs.Laws.{AlikeNames, IsStep}
 use Rattle.lab_defs_game.proofs.GameLemmas.{reached_push, inner_has}
 use Rattle.lab_defs_game.proofs.Legal.{step_at, steps_by, step_from, legal_push, history_legal, legal_history, length_push}
 use Rattle.lab_defs_game.proofs.TreeLaws.{along_law}
 use Rattle.lab_defs_game.proofs.RecallLemmas.{not_both, recall_law, inner_world}
-use Rattle.lab_defs_game.proofs.FormLemmas.{actions_of_set, set_below, deciding_most, count_push, ends_within, world_ok, some_action, some_step, unit_whole}
+use Rattle.lab_defs_game.proofs.FormLemmas.{game_actions_length, actions_of_set, set_below, deciding_most, count_push, ends_within, world_ok, some_action, some_step, unit_whole}
 use Rattle.lab_defs_game.proofs.Suffixes.{ends_from, sum_over_terminal}
 use Rattle.lab_defs_value.specs.Tables.{first_weight, factor}
-use Rattle.lab_defs_value.specs.Expectation.{grid_of}
-use Rattle.lab_defs_value.specs.WholeLaws.{SumsToGrid, own_of, WholeLaw}
+use Rattle.lab_defs_game.specs.Seats.{grid_of}
+use Rattle.lab_defs_value.specs.Replies.{SumsToGrid}
+use Rattle.lab_defs_value.specs.Expectation.{own_along}
+use Rattle.lab_defs_value.specs.WholeLaws.{WholeLaw}
+use Rattle.lab_defs_value.proofs.Pools.{range_sum}
 
 -- ---- products and powers
 
@@ -44,11 +48,11 @@ power_rest d m n le = sym (pow-succ' d (m - (n + 1))) ∙ ap (λ x. d ^ x) (less
 
 module _ (g : GameModel) (seat : ℕ) (table : List ℕ) where
   -- the set of a history with an action
-  abbrev taken : History → ℕ → Taken
+  abbrev taken : History → ℕ → SetAction
   taken h a = record { set = set_number g seat (seen g seat h); action = a }
 
   -- the factor of an action
-  abbrev weight : Taken → ℕ
+  abbrev weight : SetAction → ℕ
   weight = factor (game_actions g seat) table
 
   -- the deciding sets before a history, and one more where its set decides
@@ -64,7 +68,7 @@ module _ (g : GameModel) (seat : ℕ) (table : List ℕ) where
   own_then h a = (product_over weight (path_along g seat h) * weight (taken h a)) * grid_of g seat ^ (most_decisions g seat - (decided h + decides_here h))
 
   -- a step further
-  own_push : (h : History) (s : Step) → own_of g seat table (h ++ s ∷ []) ≡ own_then h (if seat == 1 then s.action1 else s.action2)
+  own_push : (h : History) (s : Step) → own_along g seat table (h ++ s ∷ []) ≡ own_then h (if seat == 1 then s.action1 else s.action2)
   own_push h s =
       let a = if seat == 1 then s.action1 else s.action2 in
       ap (λ p. product_over weight p * grid_of g seat ^ (most_decisions g seat - deciding (game_actions g seat) p)) (along_law g seat h s).0
@@ -72,7 +76,7 @@ module _ (g : GameModel) (seat : ℕ) (table : List ℕ) where
       ∙ ap (λ n. (product_over weight (path_along g seat h) * weight (taken h a)) * grid_of g seat ^ (most_decisions g seat - n))
       (count_push (λ t. decides (game_actions g seat) t.set) (path_along g seat h) (taken h a))
 
-  -- the set where a history stands, and the product of the weights on the way to it
+  -- the set of a history, and the product of the weights on the way to it
   abbrev here : History → ℕ
   here h = set_number g seat (seen g seat h)
 
@@ -97,13 +101,14 @@ module _ (g : GameModel) (seat : ℕ) (table : List ℕ) where
 
   -- the weights at a deciding set sum to the grid
   own_sum_deciding : SumsToGrid (grid_of g seat) (game_actions g seat) table → (h : History) → here h < length (game_actions g seat) → decides (game_actions g seat) (here h) ≡ true
-      → decided h + 1 ≤ most_decisions g seat → sum_over (own_then h) (range_with_len 0 (slice_index (game_actions g seat) (here h))) ≡ own_of g seat table h
+      → decided h + 1 ≤ most_decisions g seat → sum_over (own_then h) (range_with_len 0 (slice_index (game_actions g seat) (here h))) ≡ own_along g seat table h
   own_sum_deciding is h l e most =
-      let xs = range_with_len 0 (slice_index (game_actions g seat) (here h)) in
+      let n = slice_index (game_actions g seat) (here h) in
+      let xs = range_with_len 0 n in
       sum_over-same (own_then h) (λ a. (way h * slice_index table (first_weight (game_actions g seat) (here h) + a)) * rest (decided h + 1)) xs (λ a i. own_then_deciding h a e)
       ∙ sum_over-times_behind (λ a. way h * slice_index table (first_weight (game_actions g seat) (here h) + a)) (rest (decided h + 1)) xs
       ∙ ap (λ n. n * rest (decided h + 1)) (sum_over-times (way h) (λ a. slice_index table (first_weight (game_actions g seat) (here h) + a)) xs)
-      ∙ ap (λ n. (way h * n) * rest (decided h + 1)) (is (here h) l e)
+      ∙ ap (λ n. (way h * n) * rest (decided h + 1)) (range_sum n (λ a. slice_index table (first_weight (game_actions g seat) (here h) + a)) ∙ is (here h) l e)
       ∙ regroup (way h) (grid_of g seat) (rest (decided h + 1))
       ∙ ap (λ n. way h * n) (power_rest (grid_of g seat) (most_decisions g seat) (decided h) most)
     where
@@ -111,7 +116,7 @@ module _ (g : GameModel) (seat : ℕ) (table : List ℕ) where
       regroup a b c = omega arith
 
   -- at a pass there is one action
-  own_sum_pass : (h : History) (n : ℕ) → decides (game_actions g seat) (here h) ≡ false → n ≡ 1 → sum_over (own_then h) (range_with_len 0 n) ≡ own_of g seat table h
+  own_sum_pass : (h : History) (n : ℕ) → decides (game_actions g seat) (here h) ≡ false → n ≡ 1 → sum_over (own_then h) (range_with_len 0 n) ≡ own_along g seat table h
   own_sum_pass h n e one =
       ap (λ m. sum_over (own_then h) (range_with_len 0 m)) one
       ∙ ap (λ m. m + 0) (own_then_pass h 0 e)
@@ -126,19 +131,19 @@ module _ (g : GameModel) (seat : ℕ) (table : List ℕ) where
 
   -- over all actions of the seat, the own weights a step further sum to the own weight
   own_sum : AlikeNames g seat → SumsToGrid (grid_of g seat) (game_actions g seat) table → (h : History) → In h (inner_histories g) → 0 < actions_at seat (place_of g h)
-      → decided h + decides_here h ≤ most_decisions g seat → sum_over (own_then h) (range_with_len 0 (actions_at seat (place_of g h))) ≡ own_of g seat table h
+      → decided h + decides_here h ≤ most_decisions g seat → sum_over (own_then h) (range_with_len 0 (actions_at seat (place_of g h))) ≡ own_along g seat table h
   own_sum alike is h i some most = at (decides (game_actions g seat) (here h)) refl
     where
       n_is : slice_index (game_actions g seat) (here h) ≡ actions_at seat (place_of g h)
       n_is = actions_of_set g seat alike h i
 
       below : here h < length (game_actions g seat)
-      below = subst (λ n. here h < n) (sym (length-map (sets g seat) (set_actions g seat))) (set_below g seat h i)
+      below = subst (λ n. here h < n) (sym (game_actions_length g seat)) (set_below g seat h i)
 
       single : (n : ℕ) → nat_le 2 n ≡ false → 0 < n → n ≡ 1
       single n e l = let k = leb-false 2 n e in omega (arith, k, l)
 
-      at : (b : Bool) → decides (game_actions g seat) (here h) ≡ b → sum_over (own_then h) (range_with_len 0 (actions_at seat (place_of g h))) ≡ own_of g seat table h
+      at : (b : Bool) → decides (game_actions g seat) (here h) ≡ b → sum_over (own_then h) (range_with_len 0 (actions_at seat (place_of g h))) ≡ own_along g seat table h
       at true e =
           ap (λ n. sum_over (own_then h) (range_with_len 0 n)) (sym n_is)
           ∙ own_sum_deciding is h below e (subst (λ b. decided h + cond b 1 0 ≤ most_decisions g seat) e most)
@@ -178,26 +183,26 @@ next_history g h s i l step =
 module _ (g : GameModel) (table1 table2 : List ℕ) where
   -- both seats' own weights
   abbrev both : History → ℕ
-  both h = own_of g 1 table1 h * own_of g 2 table2 h
+  both h = own_along g 1 table1 h * own_along g 2 table2 h
 
-  -- what the ends within k steps behind a history bring, from the place n and the step t on
-  abbrev behind : ℕ → ℕ → ℕ → History → ℕ
-  behind k t n h = sum_over (λ r. chance_from g t n r * both (h ++ r)) (ends_from g k n)
+  -- what the ends within k steps after a history bring, from the place n and the step t on
+  abbrev after : ℕ → ℕ → ℕ → History → ℕ
+  after k t n h = sum_over (λ r. chance_from g t n r * both (h ++ r)) (ends_from g k n)
 
   -- the chance of one step, in the units of its depth
   abbrev step_chance : ℕ → ℕ → Step → ℕ
   step_chance t n s = (outcome_of g n s).weight * (chance_unit g t / row_total (row_of (place_at g n) s.action1 s.action2))
 
-  -- behind an end is nothing but itself
-  behind_end : (k t n : ℕ) (h : History) → is_world (place_at g n) ≡ false → behind k t n h ≡ units_from g t (g.horizon - t) * both h
-  behind_end zero t n h e =
+  -- after an end is nothing but itself
+  after_end : (k t n : ℕ) (h : History) → is_world (place_at g n) ≡ false → after k t n h ≡ units_from g t (g.horizon - t) * both h
+  after_end zero t n h e =
       ap (λ b. sum_over (λ r. chance_from g t n r * both (h ++ r)) (cond b [] ([] ∷ []))) e
       ∙ ap (λ x. units_from g t (g.horizon - t) * both x + 0) (append-nil h)
       ∙ nothing (units_from g t (g.horizon - t) * both h)
     where
       nothing : (a : ℕ) → a + 0 ≡ a
       nothing a = omega arith
-  behind_end (suc k) t n h e =
+  after_end (suc k) t n h e =
       ap (λ b. sum_over (λ r. chance_from g t n r * both (h ++ r)) (cond b (flat_map (λ s. map (λ r. s ∷ r) (ends_from g k (outcome_of g n s).next)) (steps_of (place_at g n))) ([] ∷ []))) e
       ∙ ap (λ x. units_from g t (g.horizon - t) * both x + 0) (append-nil h)
       ∙ nothing (units_from g t (g.horizon - t) * both h)
@@ -205,20 +210,20 @@ module _ (g : GameModel) (table1 table2 : List ℕ) where
       nothing : (a : ℕ) → a + 0 ≡ a
       nothing a = omega arith
 
-  -- behind a world is, for each step, its chance times what is behind it
-  behind_world : (k t n : ℕ) (h : History) → is_world (place_at g n) ≡ true
-      → behind (suc k) t n h ≡ sum_over (λ s. step_chance t n s * behind k (t + 1) (outcome_of g n s).next (h ++ s ∷ [])) (steps_of (place_at g n))
-  behind_world k t n h e =
+  -- after a world is, for each step, its chance times what is after it
+  after_world : (k t n : ℕ) (h : History) → is_world (place_at g n) ≡ true
+      → after (suc k) t n h ≡ sum_over (λ s. step_chance t n s * after k (t + 1) (outcome_of g n s).next (h ++ s ∷ [])) (steps_of (place_at g n))
+  after_world k t n h e =
       ap (λ b. sum_over (λ r. chance_from g t n r * both (h ++ r)) (cond b (flat_map (λ s. map (λ r. s ∷ r) (ends_from g k (outcome_of g n s).next)) (steps_of (place_at g n))) ([] ∷ []))) e
       ∙ sum_over-flat_map (λ r. chance_from g t n r * both (h ++ r)) (λ s. map (λ r. s ∷ r) (ends_from g k (outcome_of g n s).next)) (steps_of (place_at g n))
       ∙ sum_over-same (λ s. sum_over (λ r. chance_from g t n r * both (h ++ r)) (map (λ r. s ∷ r) (ends_from g k (outcome_of g n s).next)))
-      (λ s. step_chance t n s * behind k (t + 1) (outcome_of g n s).next (h ++ s ∷ [])) (steps_of (place_at g n)) (λ s i. step s)
+      (λ s. step_chance t n s * after k (t + 1) (outcome_of g n s).next (h ++ s ∷ [])) (steps_of (place_at g n)) (λ s i. step s)
     where
       regroup : (a b c : ℕ) → (a * b) * c ≡ a * (b * c)
       regroup a b c = omega arith
 
       step : (s : Step) → sum_over (λ r. chance_from g t n r * both (h ++ r)) (map (λ r. s ∷ r) (ends_from g k (outcome_of g n s).next))
-          ≡ step_chance t n s * behind k (t + 1) (outcome_of g n s).next (h ++ s ∷ [])
+          ≡ step_chance t n s * after k (t + 1) (outcome_of g n s).next (h ++ s ∷ [])
       step s =
           let rs = ends_from g k (outcome_of g n s).next in
           sum_over-map (λ r. chance_from g t n r * both (h ++ r)) (λ r. s ∷ r) rs
@@ -252,12 +257,12 @@ module _ (g : GameModel) (table1 table2 : List ℕ) where
       (is1 : SumsToGrid (grid_of g 1) (game_actions g 1) table1) (is2 : SumsToGrid (grid_of g 2) (game_actions g 2) table2) where
     -- what a history is to bring where k steps are left
     abbrev Brings : ℕ → History → Type 0
-    Brings k h = behind k (length h) (reached g g.root h) h ≡ units_from g (length h) k * both h
+    Brings k h = after k (length h) (reached g g.root h) h ≡ units_from g (length h) k * both h
 
     -- over all steps out of a world
     over_steps : (k : ℕ) (h : History) → In h (inner_histories g) → (s : Step) → IsStep (place_of g h) s → In (h ++ s ∷ []) (histories g)
-        → ((s : Step) → In s (steps_of (place_of g h)) → behind k (length h + 1) (outcome_of g (reached g g.root h) s).next (h ++ s ∷ []) ≡ units_from g (length h + 1) k * both (h ++ s ∷ []))
-        → sum_over (λ s. step_chance (length h) (reached g g.root h) s * behind k (length h + 1) (outcome_of g (reached g g.root h) s).next (h ++ s ∷ [])) (steps_of (place_of g h))
+        → ((s : Step) → In s (steps_of (place_of g h)) → after k (length h + 1) (outcome_of g (reached g g.root h) s).next (h ++ s ∷ []) ≡ units_from g (length h + 1) k * both (h ++ s ∷ []))
+        → sum_over (λ s. step_chance (length h) (reached g g.root h) s * after k (length h + 1) (outcome_of g (reached g g.root h) s).next (h ++ s ∷ [])) (steps_of (place_of g h))
         ≡ units_from g (length h) (suc k) * both h
     over_steps k h i s step there brings =
         let n = reached g g.root h in
@@ -272,8 +277,8 @@ module _ (g : GameModel) (table1 table2 : List ℕ) where
         let o1 = own_then g 1 table1 h in
         let o2 = own_then g 2 table2 h in
         let each : (s : Step) → both (h ++ s ∷ []) ≡ o1 s.action1 * o2 s.action2 =
-        λ s. ap (λ m. m * own_of g 2 table2 (h ++ s ∷ [])) (own_push g 1 table1 h s) ∙ ap (λ m. o1 s.action1 * m) (own_push g 2 table2 h s) in
-        sum_over-same (λ s. step_chance t n s * behind k (t + 1) (outcome_of g n s).next (h ++ s ∷ [])) (λ s. step_chance t n s * (U * (o1 s.action1 * o2 s.action2))) (steps_of p)
+        λ s. ap (λ m. m * own_along g 2 table2 (h ++ s ∷ [])) (own_push g 1 table1 h s) ∙ ap (λ m. o1 s.action1 * m) (own_push g 2 table2 h s) in
+        sum_over-same (λ s. step_chance t n s * after k (t + 1) (outcome_of g n s).next (h ++ s ∷ [])) (λ s. step_chance t n s * (U * (o1 s.action1 * o2 s.action2))) (steps_of p)
         (λ s j. ap (λ m. step_chance t n s * m) (brings s j ∙ ap (λ m. U * m) (each s)))
         ∙ sum_steps (λ s. step_chance t n s * (U * (o1 s.action1 * o2 s.action2))) p
         ∙ sum_over-same
@@ -283,7 +288,7 @@ module _ (g : GameModel) (table1 table2 : List ℕ) where
         (λ b ib. row_sum t n a b (U * (o1 a * o2 b)) (unit_whole g h a b ok i (below a (actions_at 1 p) ia) (below b (actions_at 2 p) ib)) ∙ regroup C U (o1 a * o2 b)))
         ∙ pair_sum (C * U) o1 o2 as1 as2
         ∙ ap (λ m. (C * U) * (m * sum_over o2 as2)) (own_sum g 1 table1 alike1 is1 h i (some_action g 1 p pok world) (decided_most g 1 table1 alike1 h s there))
-        ∙ ap (λ m. (C * U) * (own_of g 1 table1 h * m)) (own_sum g 2 table2 alike2 is2 h i (some_action g 2 p pok world) (decided_most g 2 table2 alike2 h s there))
+        ∙ ap (λ m. (C * U) * (own_along g 1 table1 h * m)) (own_sum g 2 table2 alike2 is2 h i (some_action g 2 p pok world) (decided_most g 2 table2 alike2 h s there))
       where
         regroup : (a b c : ℕ) → a * (b * c) ≡ (a * b) * c
         regroup a b c = omega arith
@@ -303,7 +308,7 @@ module _ (g : GameModel) (table1 table2 : List ℕ) where
 
         at : (b : Bool) → is_world (place_of g h) ≡ b → Brings 0 h
         at true q = absurd (not_both q (ends_within g unfolds h i here))
-        at false q = behind_end 0 (length h) (reached g g.root h) h q ∙ ap (λ m. units_from g (length h) m * both h) none
+        at false q = after_end 0 (length h) (reached g g.root h) h q ∙ ap (λ m. units_from g (length h) m * both h) none
     brings_all (suc k) h i e = at (is_world (place_of g h)) refl (λ s j. brings_all k (h ++ s ∷ []) (further s j) (left s))
       where
         more : length h < g.horizon
@@ -322,24 +327,24 @@ module _ (g : GameModel) (table1 table2 : List ℕ) where
         one_on s = let len = length_push h s in omega (arith, len)
 
         there : (s : Step) → Brings k (h ++ s ∷ [])
-            → behind k (length h + 1) (outcome_of g (reached g g.root h) s).next (h ++ s ∷ []) ≡ units_from g (length h + 1) k * both (h ++ s ∷ [])
+            → after k (length h + 1) (outcome_of g (reached g g.root h) s).next (h ++ s ∷ []) ≡ units_from g (length h + 1) k * both (h ++ s ∷ [])
         there s r =
-            subst (λ n. behind k (length h + 1) n (h ++ s ∷ []) ≡ units_from g (length h + 1) k * both (h ++ s ∷ [])) (reached_push g g.root h s)
-            (subst (λ t. behind k t (reached g g.root (h ++ s ∷ [])) (h ++ s ∷ []) ≡ units_from g t k * both (h ++ s ∷ [])) (one_on s) r)
+            subst (λ n. after k (length h + 1) n (h ++ s ∷ []) ≡ units_from g (length h + 1) k * both (h ++ s ∷ [])) (reached_push g g.root h s)
+            (subst (λ t. after k t (reached g g.root (h ++ s ∷ [])) (h ++ s ∷ []) ≡ units_from g t k * both (h ++ s ∷ [])) (one_on s) r)
 
         at : (b : Bool) → is_world (place_of g h) ≡ b → ((s : Step) → IsStep (place_of g h) s → Brings k (h ++ s ∷ [])) → Brings (suc k) h
         at true q rest =
             let s = some_step g (place_of g h) (world_ok g (reached g g.root h) ok q) q in
-            behind_world k (length h) (reached g g.root h) h q
+            after_world k (length h) (reached g g.root h) h q
             ∙ over_steps k h (inner_has g h i q) s.0 s.1 (further s.0 s.1) (λ s j. there s (rest s (step_from (place_of g h) s j)))
-        at false q rest = behind_end (suc k) (length h) (reached g g.root h) h q ∙ ap (λ m. units_from g (length h) m * both h) steps
+        at false q rest = after_end (suc k) (length h) (reached g g.root h) h q ∙ ap (λ m. units_from g (length h) m * both h) steps
 
 -- the law of the whole
 pub whole_law : WholeLaw
-whole_law g table1 table2 ok unfolds recalls is1 is2 =
-    let alike = (recall_law g).0 recalls in
-    sum_over_terminal g (λ h. chance g h * (own_of g 1 table1 h * own_of g 2 table2 h))
-    ∙ brings_all g table1 table2 ok unfolds alike.0 alike.1 is1 is2 g.horizon [] (legal_history g [] tt (omega arith)) (omega arith)
+whole_law g table1 table2 ok is1 is2 =
+    let alike = (recall_law g).0 ok.recalls in
+    sum_over_terminal g (λ h. chance g h * (own_along g 1 table1 h * own_along g 2 table2 h))
+    ∙ brings_all g table1 table2 ok.good ok.unfolds alike.0 alike.1 is1 is2 g.horizon [] (legal_history g [] tt (omega arith)) (omega arith)
     ∙ clear (units_from g 0 g.horizon) (grid_of g 1) (most_decisions g 1) (grid_of g 2) (most_decisions g 2)
   where
     whole : (m : ℕ) → m - 0 ≡ m

@@ -1,70 +1,24 @@
 -- Whole paths, first step first, against the steps back from the last one: what a reply earns by the ones is what it earns by the others.
-use Rattle.std.proofs.Common.{◌≡◌, ℕ, zero, suc, ◌+◌, ◌*◌, ◌-◌, ◌^◌, ◌≤◌, ℤ, pos, ◌+ℤ◌, ◌*ℤ◌, List, [], ◌∷◌, ◌++◌, Bool, true, false, cond, ◌||◌, eqb, Option, Some, None, length, refl, sym, ap, ◌∙◌, subst, arith, map, eqb-true, append-nil, append_assoc}
+use Rattle.std.proofs.Common.{◌≡◌, ℕ, zero, suc, ◌+◌, ◌*◌, ◌-◌, ◌^◌, ◌≤◌, ℤ, pos, ◌+ℤ◌, ◌*ℤ◌, List, [], ◌∷◌, ◌++◌, Bool, true, false, cond, ◌||◌, eqb, Option, Some, None, length, refl, sym, ap, ◌∙◌, subst, arith, map, eqb-true}
 use Rattle.std.specs.List.{All}
 use Rattle.std.proofs.lemmas.List.Elements.{All-map, All-weaker}
 use Rattle.lab_math.specs.Sums.{product_over}
 use Rattle.lab_math.proofs.SumLemmas.{total-map, greatest_over_le}
 use Rattle.lab_math.proofs.Totals.{total_filter_map}
 use Rattle.lab_math.proofs.BelowLemmas.{eqb_apart}
-use Rattle.lab_defs_game.specs.Forms.{Taken, Row, path_of, pad_of, decides, deciding}
-use Rattle.lab_defs_value.specs.Parents.{passes_through, path_from, last_after, last_step, parent_in, is_step, IsStepBelow, ComesAfter, IsPath, IsForm}
+use Rattle.lab_defs_game.specs.Forms.{FormSet, Row, sets_of, path_of, decides, deciding, parent_at, parent_of, chain_within}
+use Rattle.lab_defs_game.specs.Paths.{SetAction, last_step, is_taken}
+use Rattle.lab_defs_value.specs.Parents.{passes_through, path_from, IsStepBelow, IsChain, IsForm}
+use Rattle.lab_defs_value.proofs.Chains.{sets_length}
+use Rattle.lab_defs_value.specs.Smallness.{factors_at}
 use Rattle.lab_defs_value.specs.Replies.{Strategy, Reply, opponent, reply_sets, worth_against, reply_factors, reply_factor, tail, earned}
 use Rattle.lab_defs_value.specs.Bounds.{through, through_sets}
-use Rattle.lab_defs_value.proofs.Parenthood.{parents_below}
-use Rattle.lab_defs_value.proofs.Views.{View, Ending, steps_back, trail, from_set, tail_back, earned_back, AtMostDecisions, IsView, backed}
-
--- the path to a step: the path to the step before it, and the step
-abbrev pub path_to : View → ℕ → Option Taken → List Taken
-path_to v zero s = []
-path_to v (suc k) None = []
-path_to v (suc k) (Some s) = path_to v k (v.parent s.set) ++ s ∷ []
-
--- ---- a path that follows parents is the path to its last step
-
--- one more than the set of a step, 0 where there is none
-abbrev pub end_of : Option Taken → ℕ
-end_of None = 0
-end_of (Some s) = suc s.set
-
--- a set that comes after a step has at least that number
-end_le : (before : Option Taken) (I : ℕ) → ComesAfter before I → end_of before ≤ I
-end_le None I h = omega arith
-end_le (Some s) I h = omega (arith, h)
-
--- the path to the last step of a path is that path, behind the path to the step before
-path_is : (v : View) (before : Option Taken) (done path : List Taken) → ((k : ℕ) → end_of before ≤ k → path_to v k before ≡ done) → IsPath v.actions v.parent before path
-    → (k : ℕ) → end_of (last_after before path) ≤ k → path_to v k (last_after before path) ≡ done ++ path
-path_is v before done [] known h k le = known k le ∙ sym (append-nil done)
-path_is v before done (t ∷ ts) known h k le =
-    path_is v (Some t) (done ++ t ∷ []) ts one h.3 k le ∙ append_assoc done (t ∷ []) ts
-  where
-    one : (k : ℕ) → suc t.set ≤ k → path_to v k (Some t) ≡ done ++ t ∷ []
-    one zero le = absurd (omega arith)
-    one (suc k) le = ap (λ b. path_to v k b ++ t ∷ []) h.0 ∙ ap (λ p. p ++ t ∷ []) (known k (let e = end_le before t.set h.1 in omega (arith, e, le)))
-
--- the last step of a path is there
-last_is : (v : View) (before : Option Taken) (path : List Taken) → IsStepBelow v.actions (length v.actions) before → IsPath v.actions v.parent before path
-    → IsStepBelow v.actions (length v.actions) (last_after before path)
-last_is v before [] there h = there
-last_is v before (t ∷ ts) there h = last_is v (Some t) ts h.2 h.3
-
--- a step that is there has its set below the number of sets
-end_below : (v : View) (last : Option Taken) → IsStepBelow v.actions (length v.actions) last → end_of last ≤ length v.actions
-end_below v None h = omega arith
-end_below v (Some s) h = omega (arith, h.0)
-
--- a whole path is the path to its last step
-pub whole_path : (v : View) (path : List Taken) → IsPath v.actions v.parent None path → path_to v (length v.actions) (last_step path) ≡ path
-whole_path v path h = path_is v None [] path none h (length v.actions) (end_below v (last_step path) (last_is v None path tt h))
-  where
-    none : (k : ℕ) → 0 ≤ k → path_to v k None ≡ []
-    none zero le = refl
-    none (suc k) le = refl
+use Rattle.lab_defs_value.proofs.StepForms.{StepForm, Ending, steps_back, trail, from_set, tail_back, earned_back, AtMostDecisions, IsStepForm, backed}
 
 -- ---- one more step at the end of a path
 
 -- which sets it passes through
-pub passes_push : (I : ℕ) (p : List Taken) (s : Taken) → passes_through I (p ++ s ∷ []) ≡ (eqb s.set I || passes_through I p)
+pub passes_push : (I : ℕ) (p : List SetAction) (s : SetAction) → passes_through I (p ++ s ∷ []) ≡ (eqb s.set I || passes_through I p)
 passes_push I [] s = refl
 passes_push I (q ∷ p) s = ap (λ b. eqb q.set I || b) (passes_push I p s) ∙ swap (eqb q.set I) (eqb s.set I) (passes_through I p)
   where
@@ -75,7 +29,7 @@ passes_push I (q ∷ p) s = ap (λ b. eqb q.set I || b) (passes_push I p s) ∙ 
     swap false false c = refl
 
 -- its steps from a set on
-rest_push : (I : ℕ) (p : List Taken) (s : Taken) → path_from I (p ++ s ∷ []) ≡ cond (passes_through I p) (path_from I p ++ s ∷ []) (cond (eqb s.set I) (s ∷ []) [])
+rest_push : (I : ℕ) (p : List SetAction) (s : SetAction) → path_from I (p ++ s ∷ []) ≡ cond (passes_through I p) (path_from I p ++ s ∷ []) (cond (eqb s.set I) (s ∷ []) [])
 rest_push I [] s = refl
 rest_push I (q ∷ p) s = at (eqb q.set I) (rest_push I p s)
   where
@@ -85,36 +39,73 @@ rest_push I (q ∷ p) s = at (eqb q.set I) (rest_push I p s)
     at false h = h
 
 -- how many of its sets decide
-deciding_push : (ns : List ℕ) (p : List Taken) (s : Taken) → deciding ns (p ++ s ∷ []) ≡ cond (decides ns s.set) 1 0 + deciding ns p
+deciding_push : (ns : List ℕ) (p : List SetAction) (s : SetAction) → deciding ns (p ++ s ∷ []) ≡ cond (decides ns s.set) 1 0 + deciding ns p
 deciding_push ns [] s = refl
 deciding_push ns (q ∷ p) s = omega (arith, deciding_push ns p s)
 
 -- a product over it
-product_push : (F : Taken → ℕ) (p : List Taken) (s : Taken) → product_over F (p ++ s ∷ []) ≡ F s * product_over F p
+product_push : (F : SetAction → ℕ) (p : List SetAction) (s : SetAction) → product_over F (p ++ s ∷ []) ≡ F s * product_over F p
 product_push F [] s = refl
 product_push F (q ∷ p) s = ap (λ x. F q * x) (product_push F p s) ∙ omega arith
 
--- ---- a path against the steps back
+-- ---- a strategy's form, as the opponent sees it
+
+-- the opponent's sets
+abbrev pub opposing_sets : Strategy → List FormSet
+opposing_sets s = sets_of s.form (opponent s)
+
+-- a row, by its last step
+abbrev pub ending_of : Strategy → Row → Ending
+ending_of s z = record { worth = worth_against s z; last = last_step (path_of z (opponent s)) }
+
+-- the form, by parents and last steps
+abbrev pub step_form_of : Strategy → StepForm
+step_form_of s = record { actions = reply_sets s; parent = parent_of s.form (opponent s); rows = map (ending_of s) s.form.rows }
+
+-- a row whose path is a chain of parents
+abbrev pub HasPath : Strategy → Row → Type 0
+HasPath s z = IsChain (opposing_sets s) (path_of z (opponent s))
+
+-- its last step is there
+last_is : (s : Strategy) (z : Row) → HasPath s z → IsStepBelow (reply_sets s) (length (reply_sets s)) (last_step (path_of z (opponent s)))
+last_is s z h = subst (λ n. IsStepBelow (reply_sets s) n (last_step (path_of z (opponent s)))) (sym (sets_length (opposing_sets s))) h.there
+
+-- its path is the chain that ends there
+whole_path : (s : Strategy) (z : Row) → HasPath s z → chain_within (opposing_sets s) (length (reply_sets s)) (last_step (path_of z (opponent s))) ≡ path_of z (opponent s)
+whole_path s z h = ap (λ n. chain_within (opposing_sets s) n (last_step (path_of z (opponent s)))) (sets_length (opposing_sets s)) ∙ sym h.parents
+
+-- a form of rows with whole paths is one of parents and last steps
+pub step_form_is : (s : Strategy) → IsForm s.form (opponent s) → IsStepForm (step_form_of s)
+step_form_is s ok = record {
+  parents = ok.parents;
+  some_action = ok.some_action;
+  lasts = All-map (λ (z : Ending). IsStepBelow (reply_sets s) (length (reply_sets s)) z.last) (ending_of s) s.form.rows
+      (All-weaker (HasPath s) (λ z. IsStepBelow (reply_sets s) (length (reply_sets s)) (last_step (path_of z (opponent s)))) (last_is s) s.form.rows ok.paths);
+}
+
+-- ---- a chain of parents against the steps back
 
 -- both pass through the same sets
-pub passes_is : (v : View) (I k : ℕ) (last : Option Taken) → passes_through I (path_to v k last) ≡ passes_through I (steps_back v k last)
-passes_is v I zero last = refl
-passes_is v I (suc k) None = refl
-passes_is v I (suc k) (Some s) = passes_push I (path_to v k (v.parent s.set)) s ∙ ap (λ b. eqb s.set I || b) (passes_is v I k (v.parent s.set))
+pub passes_is : (s : Strategy) (I k : ℕ) (last : Option SetAction) → passes_through I (chain_within (opposing_sets s) k last) ≡ passes_through I (steps_back (step_form_of s) k last)
+passes_is s I zero last = refl
+passes_is s I (suc k) None = refl
+passes_is s I (suc k) (Some t) =
+    passes_push I (chain_within (opposing_sets s) k (parent_at (opposing_sets s) t.set)) t ∙ ap (λ b. eqb t.set I || b) (passes_is s I k (parent_at (opposing_sets s) t.set))
 
 -- both have as many deciding sets
-pub deciding_is : (v : View) (k : ℕ) (last : Option Taken) → deciding v.actions (path_to v k last) ≡ deciding v.actions (steps_back v k last)
-deciding_is v zero last = refl
-deciding_is v (suc k) None = refl
-deciding_is v (suc k) (Some s) =
-    deciding_push v.actions (path_to v k (v.parent s.set)) s ∙ ap (λ d. cond (decides v.actions s.set) 1 0 + d) (deciding_is v k (v.parent s.set))
+pub deciding_is : (s : Strategy) (k : ℕ) (last : Option SetAction) → deciding (reply_sets s) (chain_within (opposing_sets s) k last) ≡ deciding (reply_sets s) (steps_back (step_form_of s) k last)
+deciding_is s zero last = refl
+deciding_is s (suc k) None = refl
+deciding_is s (suc k) (Some t) =
+    deciding_push (reply_sets s) (chain_within (opposing_sets s) k (parent_at (opposing_sets s) t.set)) t
+    ∙ ap (λ d. cond (decides (reply_sets s) t.set) 1 0 + d) (deciding_is s k (parent_at (opposing_sets s) t.set))
 
 -- the numbers that a tail is made of
-abbrev pub SameRest : View → (Taken → ℕ) → List Taken → List Taken → Type 0
+abbrev pub SameRest : StepForm → (SetAction → ℕ) → List SetAction → List SetAction → Type 0
 SameRest v F x y = (deciding v.actions x ≡ deciding v.actions y) × (product_over F x ≡ product_over F y)
 
 -- steps back from below I do not pass through I
-absent : (v : View) → IsView v → (I k j : ℕ) (last : Option Taken) → j ≤ I → j ≤ length v.actions → IsStepBelow v.actions j last → passes_through I (steps_back v k last) ≡ false
+absent : (v : StepForm) → IsStepForm v → (I k j : ℕ) (last : Option SetAction) → j ≤ I → j ≤ length v.actions → IsStepBelow v.actions j last → passes_through I (steps_back v k last) ≡ false
 absent v ok I zero j last le n h = refl
 absent v ok I (suc k) j None le n h = refl
 absent v ok I (suc k) j (Some s) le n h =
@@ -129,7 +120,7 @@ no_way e = absurd (never e)
     never e = cc
 
 -- one more step, whether it is taken at I or after it
-rest_at : (v : View) (F : Taken → ℕ) (I : ℕ) (s : Taken) (p t : List Taken) → passes_through I p ≡ passes_through I t → (b : Bool) → eqb s.set I ≡ b
+rest_at : (v : StepForm) (F : SetAction → ℕ) (I : ℕ) (s : SetAction) (p t : List SetAction) → passes_through I p ≡ passes_through I t → (b : Bool) → eqb s.set I ≡ b
     → (b ≡ true → passes_through I t ≡ false)
     → (b ≡ false → SameRest v F (path_from I p) (from_set I t) × (passes_through I t ≡ true))
     → SameRest v F (path_from I (p ++ s ∷ [])) (from_set I (s ∷ t))
@@ -155,84 +146,62 @@ rest_at v F I s p t same b e here later =
         )
 
 -- from a set on that both pass through, they have the same deciding sets and products
-pub rest_is : (v : View) → IsView v → (F : Taken → ℕ) (I k j : ℕ) (last : Option Taken) → j ≤ length v.actions → IsStepBelow v.actions j last
-    → passes_through I (steps_back v k last) ≡ true → SameRest v F (path_from I (path_to v k last)) (from_set I (steps_back v k last))
-rest_is v ok F I zero j last n h e = no_way e
-rest_is v ok F I (suc k) j None n h e = no_way e
-rest_is v ok F I (suc k) j (Some s) n h e =
-    rest_at v F I s (path_to v k (v.parent s.set)) (steps_back v k (v.parent s.set)) (passes_is v I k (v.parent s.set)) (eqb s.set I) refl
-    (λ b. let same = eqb-true s.set I b in absent v ok I k s.set (v.parent s.set) (omega arith) (omega (arith, h.0)) (ok.parents s.set (omega (arith, h.0))))
-    (λ b. let on : passes_through I (steps_back v k (v.parent s.set)) ≡ true = subst (λ w. (w || passes_through I (steps_back v k (v.parent s.set))) ≡ true) b e in
-    (rest_is v ok F I k s.set (v.parent s.set) (omega (arith, h.0)) (ok.parents s.set (omega (arith, h.0))) on, on))
-
--- ---- a strategy's form, as the opponent sees it
-
--- a row, by its last step
-abbrev pub ending_of : Strategy → Row → Ending
-ending_of s z = record { worth = worth_against s z; last = last_step (path_of z (opponent s)) }
-
--- the form, by parents and last steps
-abbrev pub view_of : Strategy → View
-view_of s = record { actions = reply_sets s; parent = parent_in s.form.rows (opponent s); rows = map (ending_of s) s.form.rows }
-
--- a row whose path follows parents
-abbrev pub HasPath : Strategy → Row → Type 0
-HasPath s z = IsPath (reply_sets s) (parent_in s.form.rows (opponent s)) None (path_of z (opponent s))
-
--- a form of rows with whole paths is one of parents and last steps
-pub view_is : (s : Strategy) → IsForm s.form (opponent s) → IsView (view_of s)
-view_is s ok = record {
-  parents = λ J l. parents_below s.form (opponent s) ok J;
-  some_action = ok.some_action;
-  lasts = All-map (λ (z : Ending). IsStepBelow (reply_sets s) (length (reply_sets s)) z.last) (ending_of s) s.form.rows
-      (All-weaker (HasPath s) (λ z. IsStepBelow (reply_sets s) (length (reply_sets s)) (last_step (path_of z (opponent s)))) (λ z h. last_is (view_of s) None (path_of z (opponent s)) tt h) s.form.rows ok.paths);
-}
-
--- a row whose path follows parents, and whose decisions and pad are at most m
-abbrev pub IsReplyRow : Strategy → ℕ → Row → Type 0
-IsReplyRow s m z = HasPath s z × (deciding (reply_sets s) (path_of z (opponent s)) + pad_of z (opponent s) ≤ m)
+pub rest_is : (s : Strategy) → IsForm s.form (opponent s) → (F : SetAction → ℕ) (I k j : ℕ) (last : Option SetAction) → j ≤ length (reply_sets s) → IsStepBelow (reply_sets s) j last
+    → passes_through I (steps_back (step_form_of s) k last) ≡ true → SameRest (step_form_of s) F (path_from I (chain_within (opposing_sets s) k last)) (from_set I (steps_back (step_form_of s) k last))
+rest_is s ok F I zero j last n h e = no_way e
+rest_is s ok F I (suc k) j None n h e = no_way e
+rest_is s ok F I (suc k) j (Some t) n h e =
+    let before = parent_at (opposing_sets s) t.set in
+    let back = steps_back (step_form_of s) k before in
+    let there = ok.parents t.set (omega (arith, h.0)) in
+    rest_at (step_form_of s) F I t (chain_within (opposing_sets s) k before) back (passes_is s I k before) (eqb t.set I) refl
+    (λ b. let same = eqb-true t.set I b in absent (step_form_of s) (step_form_is s ok) I k t.set before (omega arith) (omega (arith, h.0)) there)
+    (λ b. let on : passes_through I back ≡ true = subst (λ w. (w || passes_through I back) ≡ true) b e in
+    (rest_is s ok F I k t.set before (omega (arith, h.0)) there on, on))
 
 -- the decisions of a row by its whole path and by its steps back
-trail_deciding : (s : Strategy) (z : Row) → HasPath s z → deciding (reply_sets s) (trail (view_of s) (ending_of s z)) ≡ deciding (reply_sets s) (path_of z (opponent s))
+trail_deciding : (s : Strategy) (z : Row) → HasPath s z → deciding (reply_sets s) (trail (step_form_of s) (ending_of s z)) ≡ deciding (reply_sets s) (path_of z (opponent s))
 trail_deciding s z h =
-    sym (deciding_is (view_of s) (length (reply_sets s)) (last_step (path_of z (opponent s)))) ∙ ap (deciding (reply_sets s)) (whole_path (view_of s) (path_of z (opponent s)) h)
+    sym (deciding_is s (length (reply_sets s)) (last_step (path_of z (opponent s)))) ∙ ap (deciding (reply_sets s)) (whole_path s z h)
+
+-- a row whose path is a chain of parents, and whose decisions and pad are at most m
+abbrev pub IsReplyRow : Strategy → ℕ → Row → Type 0
+IsReplyRow s m z = HasPath s z × (factors_at s.form (opponent s) z ≤ m)
 
 -- no row has more decisions than a reply has factors
-pub view_decisions : (s : Strategy) → IsForm s.form (opponent s) → AtMostDecisions (view_of s) (reply_factors s)
-view_decisions s ok =
+pub step_form_decisions : (s : Strategy) → IsForm s.form (opponent s) → AtMostDecisions (step_form_of s) (reply_factors s)
+step_form_decisions s ok =
     let m = reply_factors s in
-    let rows : All (IsReplyRow s m) s.form.rows =
-    λ k d l. (ok.paths k d l, greatest_over_le (λ (z : Row). deciding (reply_sets s) (path_of z (opponent s)) + pad_of z (opponent s)) s.form.rows k d l) in
-    All-map (λ z. deciding (reply_sets s) (trail (view_of s) z) ≤ m) (ending_of s) s.form.rows
-    (All-weaker (IsReplyRow s m) (λ z. deciding (reply_sets s) (trail (view_of s) (ending_of s z)) ≤ m) (λ z h. omega (arith, trail_deciding s z h.0, h.1)) s.form.rows rows)
+    let rows : All (IsReplyRow s m) s.form.rows = λ k d l. (ok.paths k d l, greatest_over_le (factors_at s.form (opponent s)) s.form.rows k d l) in
+    All-map (λ z. deciding (reply_sets s) (trail (step_form_of s) z) ≤ m) (ending_of s) s.form.rows
+    (All-weaker (IsReplyRow s m) (λ z. deciding (reply_sets s) (trail (step_form_of s) (ending_of s z)) ≤ m) (λ z h. omega (arith, trail_deciding s z h.0, h.1)) s.form.rows rows)
 
 -- a tail by a whole path and by its steps back
 tail_same : (s : Strategy) → IsForm s.form (opponent s) → (m : ℕ) (r : Reply) (I : ℕ) (z : Row) → HasPath s z → passes_through I (path_of z (opponent s)) ≡ true
-    → tail_back (view_of s) m r I (trail (view_of s) (ending_of s z)) ≡ tail (reply_sets s) m r I (path_of z (opponent s))
+    → tail_back (step_form_of s) m r I (trail (step_form_of s) (ending_of s z)) ≡ tail (reply_sets s) m r I (path_of z (opponent s))
 tail_same s ok m r I z h on =
-    let v = view_of s in
+    let v = step_form_of s in
     let path = path_of z (opponent s) in
     let n = length (reply_sets s) in
     let last = last_step path in
     let F = reply_factor (reply_sets s) r in
-    let whole : path_to v n last ≡ path = whole_path v path h in
-    let through : passes_through I (steps_back v n last) ≡ true = sym (passes_is v I n last) ∙ ap (passes_through I) whole ∙ on in
+    let through : passes_through I (steps_back v n last) ≡ true = sym (passes_is s I n last) ∙ ap (passes_through I) (whole_path s z h) ∙ on in
     let rest : SameRest v F (path_from I path) (from_set I (steps_back v n last)) =
-    subst (λ p. SameRest v F (path_from I p) (from_set I (steps_back v n last))) whole (rest_is v (view_is s ok) F I n n last (omega arith) (last_is v None path tt h) through) in
+    subst (λ p. SameRest v F (path_from I p) (from_set I (steps_back v n last))) (whole_path s z h) (rest_is s ok F I n n last (omega arith) (last_is s z h) through) in
     ap (λ x. product_over F (from_set I (steps_back v n last)) * r.all ^ (m - x)) (sym rest.0)
     ∙ ap (λ x. x * r.all ^ (m - deciding (reply_sets s) (path_from I path))) (sym rest.1)
 
 -- what a reply earns, both ways
-pub earned_same : (s : Strategy) → IsForm s.form (opponent s) → (r : Reply) (I : ℕ) → earned_back (view_of s) (reply_factors s) r I ≡ earned s r I
+pub earned_same : (s : Strategy) → IsForm s.form (opponent s) → (r : Reply) (I : ℕ) → earned_back (step_form_of s) (reply_factors s) r I ≡ earned s r I
 earned_same s ok r I =
-    let v = view_of s in
+    let v = step_form_of s in
     let m = reply_factors s in
     total_filter_map (HasPath s) (ending_of s) (λ z. passes_through I (path_of z (opponent s))) (λ z. passes_through I (trail v z))
     (λ z. worth_against s z *ℤ pos (tail (reply_sets s) m r I (path_of z (opponent s)))) (λ z. z.worth *ℤ pos (tail_back v m r I (trail v z))) s.form.rows ok.paths
-    (λ z h. sym (passes_is v I (length (reply_sets s)) (last_step (path_of z (opponent s)))) ∙ ap (passes_through I) (whole_path v (path_of z (opponent s)) h))
+    (λ z h. sym (passes_is s I (length (reply_sets s)) (last_step (path_of z (opponent s)))) ∙ ap (passes_through I) (whole_path s z h))
     (λ z h on. ap (λ t. worth_against s z *ℤ pos t) (tail_same s ok m r I z h on))
 
 -- what an action backs up, both ways
-pub through_same : (s : Strategy) (B : ℕ → ℤ) (J a : ℕ) → backed (view_of s) B J a ≡ through s B J a
+pub through_same : (s : Strategy) (B : ℕ → ℤ) (J a : ℕ) → backed (step_form_of s) B J a ≡ through s B J a
 through_same s B J a =
-    ap (λ t. through_sets s B J a +ℤ t) (total-map (λ z. cond (is_step z.last J a) z.worth (pos 0)) (ending_of s) s.form.rows)
+    ap (λ t. through_sets s B J a +ℤ t) (total-map (λ z. cond (is_taken (record { set = J; action = a }) z.last) z.worth (pos 0)) (ending_of s) s.form.rows)

@@ -1,5 +1,5 @@
 -- Tables with the whole grid on one action at each deciding set: they are tables, and earn what the pure reply does, times the power of the grid.
-use Rattle.std.proofs.Common.{◌≡◌, ℕ, zero, suc, ◌+◌, ◌*◌, ◌^◌, ◌<◌, pos, ◌*ℤ◌, List, [], ◌∷◌, ◌++◌, flat_map, Bool, true, false, cond, eqb, length, get_or, refl, sym, ap, ◌∙◌, subst, arith, pow-suc, one-add, zero-add}
+use Rattle.std.proofs.Common.{◌≡◌, ℕ, zero, suc, ◌+◌, ◌*◌, ◌^◌, ◌<◌, pos, ◌*ℤ◌, List, [], ◌∷◌, ◌++◌, flat_map, Bool, true, false, cond, eqb, None, length, get_or, refl, sym, ap, ◌∙◌, subst, arith, pow-suc, one-add, zero-add}
 use Rattle.std.specs.Prelude.{slice_index}
 use Rattle.std.specs.List.{All, range_with_len}
 use Rattle.std.proofs.lemmas.List.{get_or_append_left, get_or-append-add}
@@ -9,12 +9,13 @@ use Rattle.lab_math.specs.Sums.{total, product_over}
 use Rattle.lab_math.proofs.Integers.{mul_comm_z}
 use Rattle.lab_math.proofs.Totals.{total_cong_all, weighed_scale}
 use Rattle.lab_math.proofs.BelowLemmas.{sum_below_cong, sum_below_pick}
-use Rattle.lab_defs_game.specs.Forms.{Taken, Row, path_of, pad_of, decides, deciding}
+use Rattle.lab_defs_game.specs.Forms.{Row, path_of, pad_of, decides, deciding, parent_of, actions_of}
+use Rattle.lab_defs_game.specs.Paths.{SetAction}
 use Rattle.lab_defs_value.specs.Tables.{weights_of, first_weight, whole_weights, whole_table, factor, own_weight}
-use Rattle.lab_defs_value.specs.Parents.{parent_in}
 use Rattle.lab_defs_value.specs.Replies.{Strategy, opponent, reply_sets, factors_in, reply_factors, reply_factor, reply_by, worth_against, earned}
-use Rattle.lab_defs_value.specs.BestValues.{pure_reply, best_value}
+use Rattle.lab_defs_value.specs.BestValues.{pure_reply, best_response_value}
 use Rattle.lab_defs_value.specs.Laws.{Sound, IsPadded, WholeIsTableLaw, WholeTableLaw, BestTableLaw}
+use Rattle.lab_defs_value.proofs.Chains.{paths_follow}
 use Rattle.lab_defs_value.proofs.Tails.{pow_join}
 use Rattle.lab_defs_value.proofs.Bests.{one_pow}
 use Rattle.lab_defs_value.proofs.PureReplies.{best_choice}
@@ -80,7 +81,7 @@ step_scaled true grid d q = swap (grid ^ d) ∙ ap (λ x. x * (1 * q)) (sym (pow
 step_scaled false grid d q = omega arith
 
 -- the factors on a path are those of the pure reply, with the grid for each decision
-product_scaled : (grid : ℕ) (ns choice : List ℕ) (path : List Taken) → Steps ns path
+product_scaled : (grid : ℕ) (ns choice : List ℕ) (path : List SetAction) → Steps ns path
     → product_over (factor ns (whole_table grid ns choice)) path ≡ grid ^ deciding ns path * product_over (reply_factor ns (pure_reply choice)) path
 product_scaled grid ns choice [] h = ap (λ x. x * 1) (sym (pow-zero grid))
 product_scaled grid ns choice (t ∷ ts) h = at (decides ns t.set) refl (product_scaled grid ns choice ts h.1)
@@ -96,7 +97,7 @@ product_scaled grid ns choice (t ∷ ts) h = at (decides ns t.set) refl (product
     at false e rest = rw zero-add (omega (arith, rest))
 
 -- so the own weight is that of the pure reply, times the power of the grid
-row_scaled : (grid : ℕ) (ns choice : List ℕ) (path : List Taken) (pad m : ℕ) → Steps ns path → deciding ns path + pad ≡ m
+row_scaled : (grid : ℕ) (ns choice : List ℕ) (path : List SetAction) (pad m : ℕ) → Steps ns path → deciding ns path + pad ≡ m
     → own_weight grid ns (whole_table grid ns choice) path pad ≡ grid ^ m * path_weight ns (pure_reply choice) path pad
 row_scaled grid ns choice path pad m h e =
     let q = product_over (reply_factor ns (pure_reply choice)) path in
@@ -122,7 +123,7 @@ whole_earned s ok padded grid choice =
     let m = reply_factors s in
     let r = reply_by grid ns (whole_table grid ns choice) in
     let pure = λ (z : Row). path_weight ns (pure_reply choice) (path_of z o) (pad_of z o) in
-    let rows : All (WholeRow s) s.form.rows = λ k d l. (steps_of ns (parent_in s.form.rows o) _ _ (ok.paths k d l), (padded k d l).1) in
+    let rows : All (WholeRow s) s.form.rows = λ k d l. (steps_of ns (parent_of s.form o) None (path_of (get_or s.form.rows k d) o) (paths_follow s.form o ok k d l), padded.factors k d l) in
     earned_whole s r padded
     ∙ total_cong_all (WholeRow s) _ (λ z. worth_against s z *ℤ pos (grid ^ m * pure z)) s.form.rows rows
     (λ z h. ap (λ x. worth_against s z *ℤ pos x) (row_scaled grid ns choice (path_of z o) (pad_of z o) m h.0 h.1))
@@ -134,10 +135,10 @@ whole_earned s ok padded grid choice =
 pub whole_table_law : WholeTableLaw
 whole_table_law f grid1 grid2 table1 table2 choice b = (
   λ ok padded e.
-      sym ((expectation_law f grid1 grid2 table1 (whole_table grid2 f.actions2 choice)).0 padded)
+      sym ((expectation_law f grid1 grid2 table1 (whole_table grid2 (actions_of f 2) choice)).0 padded)
       ∙ whole_earned (record { form = f; keeper = 1; grid = grid1; table = table1 }) ok padded grid2 choice ∙ ap (λ x. x *ℤ pos (grid2 ^ factors_in f 2)) e,
   λ ok padded e.
-      sym ((expectation_law f grid1 grid2 (whole_table grid1 f.actions1 choice) table2).1 padded)
+      sym ((expectation_law f grid1 grid2 (whole_table grid1 (actions_of f 1) choice) table2).1 padded)
       ∙ whole_earned (record { form = f; keeper = 2; grid = grid2; table = table2 }) ok padded grid1 choice ∙ ap (λ x. x *ℤ pos (grid1 ^ factors_in f 1)) e,
 )
 
@@ -147,9 +148,9 @@ best_table_law f grid1 grid2 table1 table2 = (
   λ ok padded some.
       let s : Strategy = record { form = f; keeper = 1; grid = grid1; table = table1 } in
       let best = best_choice s ok 0 some in
-      (best.0, best.1, (whole_table_law f grid1 grid2 table1 table2 best.0 (best_value s 0)).0 ok padded best.2),
+      (best.0, best.1, (whole_table_law f grid1 grid2 table1 table2 best.0 (best_response_value s 0)).0 ok padded best.2),
   λ ok padded some.
       let s : Strategy = record { form = f; keeper = 2; grid = grid2; table = table2 } in
       let best = best_choice s ok 0 some in
-      (best.0, best.1, (whole_table_law f grid1 grid2 table1 table2 best.0 (best_value s 0)).1 ok padded best.2),
+      (best.0, best.1, (whole_table_law f grid1 grid2 table1 table2 best.0 (best_response_value s 0)).1 ok padded best.2),
 )

@@ -4,7 +4,7 @@ use Rattle.std.specs.List.{range_with_len, flat_map}
 use Rattle.lab_math.specs.Greatest.{greatest_of}
 use Rattle.lab_defs_value.specs.Replies.{Strategy, Reply, IsReply, reply_sets, reply_factors, earned}
 
--- b is the best value at the set I: no reply earns more, by its number to the factors, and a pure one earns it
+-- b is the best-response value at the set I: no reply earns more, by its number to the factors, and a pure one earns it
 pub record IsBest (s : Strategy) (I : ℕ) (b : ℤ) : Type 0 where
   pub bounds : (r : Reply) → IsReply (reply_sets s) r → earned s r I ≤ℤ (pos (r.all ^ reply_factors s) *ℤ b)
   pub earns : (r : Reply) × IsReply (reply_sets s) r × (r.all ≡ 1) × (earned s r I ≡ b)
@@ -22,6 +22,6 @@ IsChoice actions choice = (J : ℕ) → J < length actions → slice_index choic
 abbrev pub pure_reply : List ℕ → Reply
 pure_reply choice = record { all = 1; weight = λ J a. if slice_index choice J == a then 1 else 0 }
 
--- the best value at the set I: the most that a pure reply earns there
-abbrev pub best_value : Strategy → ℕ → ℤ
-best_value s I = greatest_of (map (λ c. earned s (pure_reply c) I) (choices (reply_sets s)))
+-- the best-response value at the set I: the most that a pure reply earns there
+abbrev pub best_response_value : Strategy → ℕ → ℤ
+best_response_value s I = greatest_of (map (λ c. earned s (pure_reply c) I) (choices (reply_sets s)))

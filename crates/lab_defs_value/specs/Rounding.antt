@@ -1,11 +1,15 @@
 -- The rounding rule: shares become whole weights that sum to the grid.
-use Rattle.std.specs.Prelude.{ℕ, ◌+◌, ◌-◌, ◌*◌, ◌/◌, ℤ, pos, negsuc, List, [], ◌∷◌, length, map, Bool, ◌&&◌, ◌||◌, ◌==◌, nat_lt, if◌then◌else◌}
+use Rattle.std.specs.Prelude.{ℕ, ◌+◌, ◌-◌, ◌*◌, ◌/◌, ◌%◌, ℤ, pos, negsuc, List, [], ◌∷◌, length, map, Bool, ◌&&◌, ◌||◌, ◌==◌, nat_lt, if◌then◌else◌}
 use Rattle.lab_math.specs.Sums.{sum_over}
 
 -- a negative share counts as 0
 abbrev pub share_size : ℤ → ℕ
 share_size (pos n) = n
 share_size (negsuc n) = 0
+
+-- one of m even whole parts of a number: the units that even parts leave go one each to the first of them
+abbrev pub even_part : (number m place : ℕ) → ℕ
+even_part number m place = number / m + (if nat_lt place (number % m) then 1 else 0)
 
 -- what one of `many` shares gets before the units that are left go out: an even part where all shares are 0, else its part of the whole
 abbrev pub part : (grid many whole share : ℕ) → ℕ

@@ -1,17 +1,13 @@
 -- Splices: a table with a part of it replaced.
-use Rattle.std.specs.Prelude.{◌≡◌, ℕ, ◌+◌, ◌≤◌, Bool, false, not, ◌&&◌, ◌||◌, nat_le, nat_lt, if◌then◌else◌, List, [], ◌∷◌, ◌++◌, length, filter, take, drop, slice_index}
-use Rattle.std.specs.List.{range_with_len, list_all}
+use Rattle.std.specs.Prelude.{◌≡◌, ℕ, ◌+◌, ◌≤◌, Bool, false, not, ◌&&◌, ◌||◌, nat_le, nat_lt, if◌then◌else◌, List, [], ◌∷◌, ◌++◌, length, take, drop}
+use Rattle.std.specs.List.{list_all}
+use Rattle.lab_defs_text.specs.Texts.{one_of}
 use Rattle.lab_defs_text.specs.Games.{GameModel}
-use Rattle.lab_defs_game.specs.Sets.{sets}
-use Rattle.lab_defs_game.specs.Forms.{Taken, game_actions, path_of}
+use Rattle.lab_defs_game.specs.Forms.{game_actions, path_of}
+use Rattle.lab_defs_game.specs.Paths.{SetAction}
 use Rattle.lab_defs_value.specs.Tables.{first_weight}
 use Rattle.lab_defs_value.specs.Replies.{Strategy, opponent}
-use Rattle.lab_defs_game.specs.Nodes.{begins}
-use Rattle.lab_defs_value.specs.Allowances.{public_of, lies_on}
-
--- the sets of a seat in the subgame at a node, in set order
-abbrev pub subgame_sets : GameModel → ℕ → List ℕ → List ℕ
-subgame_sets g seat node = filter (λ I. begins node (public_of g seat I)) (range_with_len 0 (length (sets g seat)))
+use Rattle.lab_defs_game.specs.Nodes.{span_from, span_to}
 
 -- a proposal's weights at the sets from `start` up to `end`, and the table's elsewhere
 abbrev pub spliced : (actions : List ℕ) (start end : ℕ) (table proposal : List ℕ) → List ℕ
@@ -19,10 +15,7 @@ spliced actions start end table proposal = take (first_weight actions start) tab
 
 -- the table of a seat with a proposal's weights in the subgame at a node, whose sets are a span
 abbrev pub replaced : GameModel → (seat : ℕ) → (node table proposal : List ℕ) → List ℕ
-replaced g seat node table proposal =
-    let inside = subgame_sets g seat node in
-    let start = slice_index inside 0 in
-    spliced (game_actions g seat) start (start + length inside) table proposal
+replaced g seat node table proposal = spliced (game_actions g seat) (span_from g seat node) (span_to g seat node) table proposal
 
 -- the strategy that plays another table
 abbrev pub with_table : Strategy → List ℕ → Strategy
@@ -36,19 +29,19 @@ pub record FitsSpan (actions : List ℕ) (start end : ℕ) (table proposal : Lis
   pub part : first_weight actions start + length proposal ≡ first_weight actions end
 
 -- whether a path stays outside the sets from `start` up to `end`
-abbrev pub stays_outside : ℕ → ℕ → List Taken → Bool
+abbrev pub stays_outside : ℕ → ℕ → List SetAction → Bool
 stays_outside start end path = list_all (λ t. nat_lt t.set start || nat_le end t.set) path
 
 -- whether a path leaves the sets of a list for good
-abbrev pub leaves : List ℕ → List Taken → Bool
-leaves sets path = list_all (λ t. not (lies_on sets t.set)) path
+abbrev pub leaves : List ℕ → List SetAction → Bool
+leaves sets path = list_all (λ t. not (one_of sets t.set)) path
 
 -- whether a path runs along sets of the list `path` to one of `node`, and then leaves them for good
-abbrev pub runs_to : (path node : List ℕ) → List Taken → Bool
+abbrev pub runs_to : (path node : List ℕ) → List SetAction → Bool
 runs_to path node [] = false
-runs_to path node (t ∷ ts) = if lies_on node t.set then leaves path ts else lies_on path t.set && runs_to path node ts
+runs_to path node (t ∷ ts) = if one_of node t.set then leaves path ts else one_of path t.set && runs_to path node ts
 
 -- whether the opponent comes into the span from `start` up to `end` of the keeper only along the path to the node
 abbrev pub encloses : (s : Strategy) (path node : List ℕ) (start end : ℕ) → Bool
 encloses s path node start end =
-    list_all (lies_on path) node && list_all (λ z. stays_outside start end (path_of z s.keeper) || runs_to path node (path_of z (opponent s))) s.form.rows
+    list_all (one_of path) node && list_all (λ z. stays_outside start end (path_of z s.keeper) || runs_to path node (path_of z (opponent s))) s.form.rows

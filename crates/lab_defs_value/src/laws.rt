@@ -1,8 +1,19 @@
-//! Laws of best values, bounds and allowances.
+//! Laws of best-response values, bounds and allowances.
 
 ghost use Rattle.lab_defs_value.specs.WholeLaws.{UniformLaw, WholeLaw};
+ghost use Rattle.lab_defs_value.specs.GameLaws.{
+  GamePaddedLaw,
+  DecidesLaw,
+  GameExpectationLaw,
+  GameGuaranteeLaw,
+  GameBestTableLaw,
+  GameEarningLaw,
+  GameSpliceLaw,
+  GameSettledLaw,
+};
 ghost use Rattle.lab_defs_value.specs.MatchingLaws.{
   RoundedLaw,
+  UnitsLaw,
   RoundedTableLaw,
   ZeroSharesLaw,
   GameFormLaw,
@@ -10,7 +21,7 @@ ghost use Rattle.lab_defs_value.specs.MatchingLaws.{
   ValueLaw,
   RegretLaw,
   EarningLaw,
-  TallyLaw,
+  RegretListsLaw,
   RoundLaw,
   SubgameLaw,
   SubgameFormLaw,
@@ -23,28 +34,32 @@ ghost use Rattle.lab_defs_value.specs.MatchingLaws.{
 };
 ghost use Rattle.lab_defs_value.specs.Laws.{
   FormTestLaw,
+  ChainLaw,
+  EvenPartLaw,
   UniqueBestLaw,
   SettleLaw,
+  SettledLaw,
   ExpectationLaw,
   GuaranteeLaw,
   WholeIsTableLaw,
   WholeTableLaw,
   BestTableLaw,
+  ThroughLaw,
   BackedUpLaw,
-  BestValueLaw,
+  BestResponseLaw,
   HoldsLaw,
   HoldsTestLaw,
   ReachLaw,
   PoolLaw,
-  PathLaw,
+  PathOrderLaw,
   PassLaw,
   SpliceLaw,
   StayLaw,
   SafeLaw,
-  SizeLaw,
+  WorthSizeLaw,
 };
 
-/// The even split has weights that sum to the grid.
+/// The uniform table has weights that sum to the grid.
 pub fn uniform()
     ensures { UniformLaw }
 {}
@@ -55,9 +70,10 @@ pub fn whole()
     ensures { WholeLaw }
 {}
 
-/// Whether a form is one, as a seat sees it, can be computed.
+/// Whether a form is well made, as a seat sees it, can be computed; and by its rows each set follows its parent.
 pub fn forms()
-    ensures { FormTestLaw }
+    ensures test { FormTestLaw }
+    ensures chains { ChainLaw }
 {}
 
 /// What a seat expects is what its table earns as a reply, so bounds that hold limit it.
@@ -79,19 +95,24 @@ pub fn unique_best()
     ensures { UniqueBestLaw }
 {}
 
-/// The best values are the numbers that are backed up from the last set to the first.
+/// An action backs up the bounds of the sets that follow it directly, each with or without rows, and what the rows are worth
+/// that end with it. The best-response values are the numbers that are backed up from the last set to the first.
 pub fn backed_up()
-    ensures { BackedUpLaw }
+    ensures each { ThroughLaw }
+    ensures values { BackedUpLaw }
 {}
 
-/// A table may be mended from the last set back: numbers that are best values stay, and the others are backed up.
+/// A table of bounds may be mended from the last set back: numbers that are best-response values stay, and the others are
+/// backed up. So bounds are settled after a splice: found anew inside its subgame and on the path above it, and kept elsewhere.
 pub fn settling()
-    ensures { SettleLaw }
+    ensures each { SettleLaw }
+    ensures settled { SettledLaw }
+    ensures games { GameSettledLaw }
 {}
 
 /// The most that pure replies earn is the best value at each set; so there is one.
-pub fn best_values()
-    ensures { BestValueLaw }
+pub fn best_response_values()
+    ensures { BestResponseLaw }
 {}
 
 /// Where each bound is at least what each action backs up, no reply earns more than the bounds.
@@ -104,10 +125,11 @@ pub fn holding_tables()
 pub fn reach_allowances()
     ensures each { ReachLaw }
     ensures sums { PoolLaw }
-    ensures paths { PathLaw }
+    ensures parts { EvenPartLaw }
+    ensures paths { PathOrderLaw }
 {}
 
-/// Best values decide whether a strategy passes, whatever the replies.
+/// Best-response values decide whether a strategy passes, whatever the replies.
 pub fn passing()
     ensures { PassLaw }
 {}
@@ -116,6 +138,7 @@ pub fn passing()
 pub fn splices()
     ensures weights { SpliceLaw }
     ensures earnings { StayLaw }
+    ensures games { GameSpliceLaw }
 {}
 
 /// A splice that passes at the sets of a node leaves the bound of the whole strategy standing.
@@ -123,14 +146,15 @@ pub fn safe_splices()
     ensures { SafeLaw }
 {}
 
-/// How large own weights, earnings and best values are at most.
+/// How large own weights, earnings and best-response values are at most.
 pub fn sizes()
-    ensures { SizeLaw }
+    ensures { WorthSizeLaw }
 {}
 
-/// Shares are rounded to weights that sum to the grid, whatever they are.
+/// Shares are rounded to weights that sum to the grid, whatever they are; the units that are left go to the first.
 pub fn rounding()
     ensures weights { RoundedLaw }
+    ensures units { UnitsLaw }
     ensures tables { RoundedTableLaw }
     ensures zeros { ZeroSharesLaw }
 {}
@@ -142,13 +166,25 @@ pub fn regrets()
     ensures values { ValueLaw }
     ensures regrets { RegretLaw }
     ensures earnings { EarningLaw }
-    ensures tallies { TallyLaw }
+    ensures tallies { RegretListsLaw }
     ensures rounds { RoundLaw }
 {}
 
-/// The rows of an accepted game are a form for both seats.
+/// The sets and rows of an accepted game are a form for both seats, each row begins at the first set of either, and lacks
+/// as many decisions as it has fewer than the most; where a seat decides in a subgame both have a set at its node.
 pub fn games()
-    ensures { GameFormLaw }
+    ensures forms { GameFormLaw }
+    ensures padded { GamePaddedLaw }
+    ensures roots { DecidesLaw }
+{}
+
+/// In an accepted game what a seat expects is what its table earns as a reply, bounds that hold limit it, and some table
+/// earns the best-response value; counterfactual values are what a table earns at a set.
+pub fn game_values()
+    ensures earned { GameExpectationLaw }
+    ensures guarantee { GameGuaranteeLaw }
+    ensures best { GameBestTableLaw }
+    ensures sets { GameEarningLaw }
 {}
 
 /// A row of a subgame is worth by weights inside what the whole row is worth by the table with these weights in it;

@@ -1,6 +1,8 @@
 -- Forms, as the program has them: with parents and last sets in place of whole paths.
-use Rattle.std.specs.Prelude.{ℕ, zero, suc, ◌≡◌, ◌<◌, ◌≤◌, List, [], ◌∷◌, ◌++◌, length, map, take, slice_index, slice_index_or, Option, Some, None, ⊤, if◌then◌else◌, ◌==◌}
+use Rattle.std.specs.Prelude.{ℕ, ◌≡◌, ◌<◌, ◌≤◌, List, [], ◌∷◌, ◌++◌, length, map, take, slice_index, slice_index_or, Option, Some, None, ⊤, if◌then◌else◌, ◌==◌}
+use Rattle.std.specs.Option.{option_map}
 use Rattle.lab_math.specs.Sums.{sum_over}
+use Rattle.lab_defs_game.specs.Paths.{SetAction}
 use Rattle.lab_defs_game.specs.Forms as model
 use Rattle.lab_defs_value.specs.Tables.{weights_of}
 use Rattle.lab_form.specs.declared.items.SetId.{SetId}
@@ -34,13 +36,13 @@ abbrev pub IsStepBelow : List FormSet → Option (SetId × ℕ) → Type 0
 IsStepBelow sets None = ⊤
 IsStepBelow sets (Some t) = (t.0.0 < length sets) × (t.1 < slice_index_or (actions_in sets) t.0.0 0)
 
--- a set that may stand next behind these: it has an action, what it follows is there, and its weights come next
+-- a set that may come next after these: it has an action, what it follows is there, and its weights come next
 pub record IsNextSet (sets : List FormSet) (s : FormSet) : Type 0 where
   pub some : 0 < s.actions
   pub parent : IsStepBelow sets s.parent
   pub first : s.first_weight ≡ weight_count sets
 
--- each set may stand behind those before it
+-- each set may come after those before it
 abbrev pub AreSets : List FormSet → Type 0
 AreSets sets = (i : ℕ) (d : FormSet) → i < length sets → IsNextSet (take i sets) (slice_index_or sets i d)
 
@@ -85,22 +87,20 @@ with_row f r = record { sets1 = f.sets1; sets2 = f.sets2; rows = f.rows ++ r ∷
 -- ---- forms of the definitions
 
 -- a set and an action, as the definitions have them
-abbrev pub taken_model : SetId × ℕ → model.Taken
+abbrev pub taken_model : SetId × ℕ → SetAction
 taken_model t = record { set = t.0.0; action = t.1 }
 
--- the parent of a set
-abbrev pub parent_of : List FormSet → ℕ → Option (SetId × ℕ)
-parent_of sets i = slice_index_or (map (λ s. s.parent) sets) i None
+-- a set, as the definitions have it
+abbrev pub set_model : FormSet → model.FormSet
+set_model s = record { parent = option_map taken_model s.parent; actions = s.actions }
 
--- the steps up to a last one, at most n of them, each before the one that it is the parent of
-abbrev pub path_to : List FormSet → ℕ → Option (SetId × ℕ) → List model.Taken
-path_to sets zero t = []
-path_to sets (suc n) None = []
-path_to sets (suc n) (Some t) = path_to sets n (parent_of sets t.0.0) ++ taken_model t ∷ []
+-- the sets of a seat, as the definitions have them
+abbrev pub sets_model : List FormSet → List model.FormSet
+sets_model sets = map set_model sets
 
--- the whole path of a seat to a last step
-abbrev pub whole_path : List FormSet → Option (SetId × ℕ) → List model.Taken
-whole_path sets t = path_to sets (length sets) t
+-- the whole path of a seat to a last step: the chain of parents that ends with it
+abbrev pub whole_path : List FormSet → Option (SetId × ℕ) → List SetAction
+whole_path sets t = model.chain (sets_model sets) (option_map taken_model t)
 
 -- a row with whole paths
 abbrev pub row_model : (sets1 sets2 : List FormSet) → FormRow → model.Row
@@ -114,4 +114,4 @@ row_model sets1 sets2 r = record {
 
 -- a form as the definitions have it
 abbrev pub form_model : FormValue → model.Form
-form_model f = record { actions1 = actions_in f.sets1; actions2 = actions_in f.sets2; rows = map (row_model f.sets1 f.sets2) f.rows }
+form_model f = record { sets1 = sets_model f.sets1; sets2 = sets_model f.sets2; rows = map (row_model f.sets1 f.sets2) f.rows }

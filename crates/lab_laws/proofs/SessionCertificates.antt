@@ -5,14 +5,16 @@ use Rattle.std.specs.List.{AllByRecursion, range_with_len}
 use Rattle.std.proofs.lemmas.List.FromFn.{length-map-range_with_len}
 use Rattle.lab_math.proofs.Members.{all_in, all_from_in, in_range, in_from_range}
 use Rattle.lab_defs_game.specs.Sets.{sets}
-use Rattle.lab_defs_value.specs.Replies.{Strategy, strategy_of, other, reply_sets}
-use Rattle.lab_defs_value.specs.BestValues.{best_value}
+use Rattle.lab_defs_value.specs.Replies.{Strategy, strategy_of, reply_sets}
+use Rattle.lab_defs_game.specs.Seats.{other}
+use Rattle.lab_defs_value.specs.BestValues.{best_response_value}
 use Rattle.lab_defs_value.specs.Bounds.{at, through}
 use Rattle.lab_defs_value.proofs.HoldsTests.{le_from_test, test_from_le}
 use Rattle.lab_defs_value.proofs.BestLaws.{holds_law}
 use Rattle.lab_defs_report.specs.Certificates.{Broken, broken_at, broken_among, certified}
 use Rattle.lab_laws.specs.Sessions.{CertifiedLaw, CertificateLaw, BrokenLaw}
-use Rattle.lab_laws.proofs.SessionParts.{reply_count, sound, some_set, tight_holds}
+use Rattle.lab_defs_value.proofs.GameValues.{some_set}
+use Rattle.lab_defs_value.proofs.GameStrategies.{reply_count, sound, tight_holds}
 
 -- ---- the test
 
@@ -85,6 +87,6 @@ pub certificate_law : CertificateLaw
 certificate_law g ok seat is table long is_table = record {
   weights = long;
   table = is_table;
-  bounds = length-map-range_with_len (best_value (strategy_of g seat table)) 0 (length (sets g (other seat)));
+  bounds = length-map-range_with_len (best_response_value (strategy_of g seat table)) 0 (length (sets g (other seat)));
   holds = tight_holds g ok seat is table;
 }

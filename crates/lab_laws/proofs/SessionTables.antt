@@ -1,8 +1,7 @@
 -- Tables whose weights sum to the grid: as they are read, and with a part replaced.
-use Rattle.lab_laws.proofs.SessionLists.{span_cases}
 use Rattle.std.proofs.Common.{◌≡◌, ℕ, zero, suc, ◌+◌, ◌-◌, ◌<◌, ◌≤◌, List, [], ◌∷◌, Bool, true, false, cond, eqb, not, ◌&&◌, ◌||◌, length, take, drop, get_or, refl, sym, ap, ◌∙◌, arith, inl, inr, ◌⊎◌, Option, Some, None, Result, Ok, eqb-true, zero-add}
 use Rattle.std.specs.Prelude.{nat_le, nat_lt, slice_index, slice_range, sum}
-use Rattle.std.proofs.lemmas.Bool.{both_ways, cases_lt}
+use Rattle.std.proofs.lemmas.Bool.{both_ways, cases_lt, and_parts, leb-true, ltb-true}
 use Rattle.std.proofs.lemmas.List.{take_all, get_or_past, get_or-drop, length-take, length-drop}
 use Rattle.std.proofs.lemmas.List.Sums.{sum_by_more}
 use Rattle.lab_math.specs.Below.{sum_below}
@@ -10,13 +9,10 @@ use Rattle.lab_math.proofs.BelowLemmas.{sum_below_cong}
 use Rattle.lab_defs_game.specs.Forms.{decides}
 use Rattle.lab_defs_value.specs.Tables.{weights_of, first_weight}
 use Rattle.lab_defs_value.specs.Splices.{spliced, FitsSpan}
-use Rattle.lab_defs_value.proofs.SubgameRows.{set_inside, weight_inside}
+use Rattle.lab_defs_value.specs.Replies.{SumsToGrid}
+use Rattle.lab_defs_value.proofs.SubgameRows.{set_inside, weight_inside, not_inside}
 use Rattle.lab_defs_value.proofs.Splicing.{splice_law}
 use Rattle.lab_defs_report.specs.States.{SessionFault, first_wrong_sum, unless_wrong}
-
--- at each deciding set the weights sum to the grid
-abbrev pub SumsTo : ℕ → List ℕ → List ℕ → Type 0
-SumsTo grid ns table = (J : ℕ) → J < length ns → decides ns J ≡ true → sum_below (slice_index ns J) (λ a. slice_index table (first_weight ns J + a)) ≡ grid
 
 -- the first weights sum to what they sum to by their places
 take_sum : (n : ℕ) (ws : List ℕ) → sum (take n ws) ≡ sum_below n (slice_index ws)
@@ -34,12 +30,12 @@ take_sum (suc n) ws = by (cases_lt n (length ws)) (take_sum n ws)
         omega (arith, none, same, rest)
 
 -- weights of which no sum is found wrong sum to the grid
-pub sums_from : (grid set : ℕ) (ns ws : List ℕ) → first_wrong_sum grid set ns ws ≡ None → SumsTo grid ns ws
+pub sums_from : (grid set : ℕ) (ns ws : List ℕ) → first_wrong_sum grid set ns ws ≡ None → SumsToGrid grid ns ws
 sums_from grid set [] ws e J l d = absurd (omega (arith, l))
 sums_from grid set (n ∷ ns) ws e J l d = by (nat_le 2 n) refl (eqb (sum (take n ws)) grid) refl e J l d (λ e J l d. sums_from grid (set + 1) ns (drop (weights_of n) ws) e J l d)
   where
     Rest : Type 0
-    Rest = first_wrong_sum grid (set + 1) ns (drop (weights_of n) ws) ≡ None → SumsTo grid ns (drop (weights_of n) ws)
+    Rest = first_wrong_sum grid (set + 1) ns (drop (weights_of n) ws) ≡ None → SumsToGrid grid ns (drop (weights_of n) ws)
 
     later : first_wrong_sum grid (set + 1) ns (drop (weights_of n) ws) ≡ None → Rest → (J : ℕ) → J < length ns → decides ns J ≡ true
         → sum_below (slice_index ns J) (λ a. slice_index ws (first_weight (n ∷ ns) (suc J) + a)) ≡ grid
@@ -62,12 +58,9 @@ none_wrong seat None x y e = refl
 none_wrong seat (Some set) x y e = absurd cc
 
 -- a splice of weights that sum to the grid into a table whose weights do is one
-pub spliced_sums : (grid : ℕ) (ns : List ℕ) (start end : ℕ) (table proposal : List ℕ) → FitsSpan ns start end table proposal → SumsTo grid ns table → SumsTo grid (slice_range ns start end) proposal
-    → SumsTo grid ns (spliced ns start end table proposal)
-spliced_sums grid ns start end table proposal f whole part J l d = elim (span_cases start end J) [
-  | inl r ↦ inside r.0 r.1
-  | inr o ↦ outside o
-]
+pub spliced_sums : (grid : ℕ) (ns : List ℕ) (start end : ℕ) (table proposal : List ℕ) → FitsSpan ns start end table proposal → SumsToGrid grid ns table → SumsToGrid grid (slice_range ns start end) proposal
+    → SumsToGrid grid ns (spliced ns start end table proposal)
+spliced_sums grid ns start end table proposal f whole part J l d = by (nat_le start J && nat_lt J end) refl
   where
     outside : (nat_lt J start || nat_le end J) ≡ true → sum_below (slice_index ns J) (λ a. slice_index (spliced ns start end table proposal) (first_weight ns J + a)) ≡ grid
     outside out =
@@ -85,3 +78,7 @@ spliced_sums grid ns start end table proposal f whole part J l d = elim (span_ca
         (splice_law ns start end table proposal f).2 J a ge k d la ∙ ap (λ i. slice_index proposal (i + a)) (sym place))
         ∙ ap (λ m. sum_below m (λ a. slice_index proposal (first_weight (slice_range ns start end) (J - start) + a))) (sym same)
         ∙ part (J - start) there (ap (nat_le 2) same ∙ d)
+
+    by : (b : Bool) → (nat_le start J && nat_lt J end) ≡ b → sum_below (slice_index ns J) (λ a. slice_index (spliced ns start end table proposal) (first_weight ns J + a)) ≡ grid
+    by true e = let p = and_parts (nat_le start J) (nat_lt J end) e in inside (leb-true start J p.0) (ltb-true J end p.1)
+    by false e = outside (not_inside start end J e)

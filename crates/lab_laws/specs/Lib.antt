@@ -1,3 +1,2 @@
 pub mod Sessions
-pub mod Sizes
-pub mod Rules
+pub mod Printed

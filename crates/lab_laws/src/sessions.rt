@@ -9,7 +9,9 @@ ghost use Rattle.lab_laws.specs.Sessions.{
   CertificateLaw,
   BrokenLaw,
   SessionCertificateLaw,
+  SessionBoundsLaw,
 };
+ghost use Rattle.lab_laws.specs.Printed.{PrintedLaw};
 
 /// From the blueprint on both seats of a session are guarded, and a command keeps the bounds from rising
 /// and changes only what it may.
@@ -17,15 +19,26 @@ pub fn headline()
     ensures { Headline }
 {}
 
-/// A proposal that passes at the sets of its node leaves the bound of the whole strategy no higher,
-/// by any of the rules.
+/// A proposal that passes at the sets of its node, by any of the rules, leaves what replies earn against the whole strategy
+/// within the bound at the first set, where the bounds hold; where they are tight, no higher than before.
 pub fn local_to_global()
     ensures { LocalToGlobalLaw }
 {}
 
-/// A proposal in place changes the tight bounds inside its subgame and on the path to it alone.
+/// Tight bounds are settled to the tight bounds of a proposal in place: they change inside its subgame and on the path
+/// to it alone.
 pub fn mended_bounds()
     ensures { MendedLaw }
+{}
+
+/// What a session keeps are bounds that may be kept, so the laws of how large numbers are hold of it.
+pub fn kept_bounds()
+    ensures { SessionBoundsLaw }
+{}
+
+/// Each reply prints the bounds and the expectation of the strategies after its command, in their units and in lowest terms.
+pub fn printed_bounds()
+    ensures { PrintedLaw }
 {}
 
 /// What is certified holds against every reply; a table with its tight bounds is certified; and the

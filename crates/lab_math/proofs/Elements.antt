@@ -1,11 +1,12 @@
 -- What some element of a list has, what each has, and the greatest element.
-use Rattle.std.proofs.Common.{◌≡◌, ℕ, zero, suc, ◌+◌, ◌<◌, ◌≤◌, ℤ, ◌≤ℤ◌, List, [], ◌∷◌, ◌++◌, ap, sym, subst, arith, inl, inr, ◌⊎◌, map, length}
+use Rattle.std.proofs.Common.{◌≡◌, ℕ, zero, suc, ◌+◌, ◌<◌, ◌≤◌, ℤ, ◌≤ℤ◌, List, [], ◌∷◌, ◌++◌, refl, ap, sym, subst, arith, inl, inr, ◌⊎◌, map, length}
 use Rattle.std.specs.List.{AllByRecursion, range_with_len, flat_map, fold}
 use Rattle.std.specs.Int.{int_max, int_min}
 use Rattle.std.proofs.lemmas.Int.{ints, clamps, by_lt_z}
 use Rattle.std.proofs.lemmas.Bool.{cases_eq}
 use Rattle.lab_math.specs.Greatest.{greatest_of, least_of}
 use Rattle.lab_math.proofs.Integers.{le_of_eq_z}
+use Rattle.lab_math.proofs.Members.{all_from_in, in_from_range}
 
 -- ---- some element
 
@@ -117,6 +118,26 @@ greatest_below (suc n) h =
         | inr ne ↦ g.2 k (omega arith)
       ],
     ))
+
+-- what a number of a range has, some number of it has
+among_range : (P : ℕ → Type 0) (j s n : ℕ) → s ≤ j → j < s + n → P j → Among P (range_with_len s n)
+among_range P j s zero le l p = absurd (omega (arith, le, l))
+among_range P j s (suc n) le l p = elim (cases_eq s j) [
+  | inl q ↦ inl (subst P (sym q) p)
+  | inr ne ↦ inr (among_range P j (s + 1) n (omega (arith, le, ne)) (omega (arith, l)) p)
+]
+
+-- the greatest of a function's values below a number is one of them, and none is above it
+pub greatest_range : (n : ℕ) (h : ℕ → ℤ) → 1 ≤ n → ((a : ℕ) → a < n → h a ≤ℤ greatest_of (map h (range_with_len 0 n))) × ((a : ℕ) × (a < n) × (h a ≡ greatest_of (map h (range_with_len 0 n))))
+greatest_range zero h some = absurd (omega (arith, some))
+greatest_range (suc n) h some =
+    let g = greatest_below n h in
+    let is : greatest_of (map h (range_with_len 0 (suc n))) ≡ h g.0 =
+    greatest_is h (h g.0) (range_with_len 0 (suc n)) (all_from_in (λ a. h a ≤ℤ h g.0) (range_with_len 0 (suc n)) (λ a i. g.2 a (omega (arith, (in_from_range a 0 (suc n) i).1))))
+    (among_range (λ a. h a ≡ h g.0) g.0 0 (suc n) (omega arith) (omega (arith, g.1)) refl) in (
+      λ a l. subst (λ x. h a ≤ℤ x) (sym is) (g.2 a l),
+      (g.0, g.1, sym is),
+    )
 
 -- ---- the least
 

@@ -2,3 +2,4 @@ pub mod Divisors
 pub mod Sums
 pub mod Below
 pub mod Greatest
+pub mod Laws

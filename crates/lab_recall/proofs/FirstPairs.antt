@@ -7,9 +7,9 @@ use Rattle.std.proofs.lemmas.Cmp.{tied_itself}
 use Rattle.lab_math.proofs.Members.{In, in_from_contains}
 use Rattle.lab_defs_text.specs.Games.{GameModel}
 use Rattle.lab_defs_text.specs.Words.{Bytes}
-use Rattle.lab_defs_game.specs.Histories.{History, histories, inner_histories, place_of}
+use Rattle.lab_defs_game.specs.Histories.{History, histories, inner_histories, place_of, action_names}
 use Rattle.lab_defs_game.specs.Laws.{AlikeNames, Remembers, IsFirstPair, history_cmp}
-use Rattle.lab_defs_game.specs.Recall.{names_at, same_names, one_set, differ, owns, actions, same_list, forgets, confused, place_of_first}
+use Rattle.lab_defs_game.specs.Recall.{same_names, one_set, differ, owns, actions, same_list, forgets, confused, place_of_first}
 use Rattle.lab_defs_game.specs.Sets.{Item, seen, publics, set_cmp}
 use Rattle.lab_defs_game.proofs.HistoryOrder.{history_total}
 use Rattle.lab_defs_game.proofs.NumberLemmas.{at_number, number_below}
@@ -98,7 +98,7 @@ module _ (g : GameModel) (seat : ℕ) (firsts : List ℕ) (all : AreFirsts (is_i
 
   -- the names of the seat's actions at a history
   abbrev names : ℕ → List Bytes
-  names i = names_at seat (place_of g (history g i))
+  names i = action_names seat (place_of g (history g i))
 
   -- where the test fails the names are those at the first history
   fine_names : (i : ℕ) → is_inner g (history g i) ≡ true → differs_at g seat firsts i ≡ false → names (slice_index firsts i) ≡ names i
@@ -124,10 +124,10 @@ module _ (g : GameModel) (seat : ℕ) (firsts : List ℕ) (all : AreFirsts (is_i
       let ik = inner_world g k (in_from_contains (inner_histories g) k d) in
       let i = numbered g h ih.0 in
       let j = numbered g k ik.0 in
-      ap (λ x. names_at seat (place_of g x)) (sym i.2)
+      ap (λ x. action_names seat (place_of g x)) (sym i.2)
       ∙ one_names i.0 j.0 i.1 j.1
       (record { first = ap (is_inner g) i.2 ∙ ih.1; second = ap (is_inner g) j.2 ∙ ik.1; same = ap (seen g seat) i.2 ∙ e ∙ ap (seen g seat) (sym j.2) }) (fine i.0 i.1) (fine j.0 j.1)
-      ∙ ap (λ x. names_at seat (place_of g x)) j.2
+      ∙ ap (λ x. action_names seat (place_of g x)) j.2
 
   -- where it holds first there is the first pair
   pub differing_pair : (n : ℕ) → IsFirstAt (differs_at g seat firsts) (length (histories g)) n → IsFirstPair (one_set g seat) (differ g seat) (histories g) (slice_index firsts n) n

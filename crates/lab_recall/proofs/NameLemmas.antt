@@ -13,7 +13,8 @@ use Rattle.lab_defs_text.proofs.SplitLemmas.{bytes_eq_is, bytes_eq_refl}
 use Rattle.lab_defs_game.proofs.NumberLemmas.{is_true_or}
 use Rattle.lab_defs_game.proofs.RecallLemmas.{not_both, names_itself}
 use Rattle.lab_defs_game.specs.Chance.{row_total}
-use Rattle.lab_defs_game.specs.Recall.{names_at, same_names}
+use Rattle.lab_defs_game.specs.Recall.{same_names}
+use Rattle.lab_defs_game.specs.Histories.{action_names}
 use Rattle.lab_math.proofs.ListTests.{item_at}
 use Rattle.lab_unfold.proofs.WorldLemmas.{whole_parts}
 use Rattle.lab_world.specs.declared.game.Game.{Game}
@@ -24,7 +25,7 @@ use Rattle.lab_world.specs.declared.place.Place.TheVariants as place
 use Rattle.lab_world.specs.declared.place.Row.{Row}
 use Rattle.lab_world.specs.declared.place.World.{World}
 use Rattle.lab_world.specs.Models.{action_list, row_model}
-use Rattle.lab_world.specs.Wholes.{with_new, action_names, place_fits}
+use Rattle.lab_world.specs.Wholes.{with_new, all_action_names, place_fits}
 
 -- no name stands twice
 abbrev Distinct : List Bytes → Type 0
@@ -68,7 +69,7 @@ distinct_new names (n ∷ ns) d = distinct_new (if stands_in n names then names 
     at (inr f) = subst (λ b. Distinct (cond b names (names ++ n ∷ []))) (sym f) (distinct_push names n d f)
 
 -- with those of places
-distinct_names : (names : List Bytes) (ps : List model.Place) → Distinct names → Distinct (action_names names ps)
+distinct_names : (names : List Bytes) (ps : List model.Place) → Distinct names → Distinct (all_action_names names ps)
 distinct_names names [] d = d
 distinct_names names (model.a_world w ∷ ps) d = distinct_names (with_new (with_new names w.one) w.two) ps (distinct_new (with_new names w.one) w.two (distinct_new names w.one d))
 distinct_names names (model.an_end z ∷ ps) d = distinct_names names ps d
@@ -84,12 +85,12 @@ pointwise_is (x ∷ xs) (y ∷ ys) e =
 
 -- no name of an action of a game stands twice
 distinct_actions : (g : Game) → Distinct g.actions
-distinct_actions g = subst Distinct (sym (pointwise_is g.actions (action_names [] (game_model g).places) names)) (distinct_names [] (game_model g).places (λ i j li lj e. absurd (omega (arith, li))))
+distinct_actions g = subst Distinct (sym (pointwise_is g.actions (all_action_names [] (game_model g).places) names)) (distinct_names [] (game_model g).places (λ i j li lj e. absurd (omega (arith, li))))
   where
-    names : pointwise bytes_eq g.actions (action_names [] (game_model g).places) ≡ true
+    names : pointwise bytes_eq g.actions (all_action_names [] (game_model g).places) ≡ true
     names =
-        (and_parts (list_all (place_fits (length g.actions)) g.places) (pointwise bytes_eq g.actions (action_names [] (game_model g).places))
-        (and_parts (game_ok (game_model g)) (list_all (place_fits (length g.actions)) g.places && pointwise bytes_eq g.actions (action_names [] (game_model g).places)) g.whole).1).1
+        (and_parts (list_all (place_fits (length g.actions)) g.places) (pointwise bytes_eq g.actions (all_action_names [] (game_model g).places))
+        (and_parts (game_ok (game_model g)) (list_all (place_fits (length g.actions)) g.places && pointwise bytes_eq g.actions (all_action_names [] (game_model g).places)) g.whole).1).1
 
 -- ids that are in range
 abbrev pub InRange : ℕ → List ActionId → Type 0
@@ -134,5 +135,5 @@ in_range g i p w l e is =
     (a.0, (and_parts two totals a.1).0)
 
 -- a place has the names that it has
-pub one_place : (g : model.GameModel) (seat m n : ℕ) → nat_eq m n ≡ true → same_names (names_at seat (place_at g m)) (names_at seat (place_at g n)) ≡ true
-one_place g seat m n e = ap (λ k. same_names (names_at seat (place_at g m)) (names_at seat (place_at g k))) (sym (eqb-true m n e)) ∙ names_itself (names_at seat (place_at g m))
+pub one_place : (g : model.GameModel) (seat m n : ℕ) → nat_eq m n ≡ true → same_names (action_names seat (place_at g m)) (action_names seat (place_at g n)) ≡ true
+one_place g seat m n e = ap (λ k. same_names (action_names seat (place_at g m)) (action_names seat (place_at g k))) (sym (eqb-true m n e)) ∙ names_itself (action_names seat (place_at g m))

@@ -4,6 +4,7 @@ ghost use Rattle.std.specs.Prelude.{◌≡◌, ◌<◌, ℕ, true, false, length
 ghost use Rattle.std.specs.List.{list_all};
 ghost use Rattle.lab_defs_text.specs.Texts.{place_at};
 ghost use Rattle.lab_defs_game.specs.Laws.{AlikeNames};
+ghost use Rattle.lab_defs_game.specs.Histories.{action_names};
 ghost use Rattle.lab_defs_game.specs.Recall as recall;
 ghost use Rattle.lab_world.specs.Games.{game_model};
 ghost use Rattle.lab_world.specs.Models.{action_list};
@@ -70,8 +71,8 @@ fn differs(game: &Game, histories: &Histories, firsts: &[u32], seat: u32, number
 
 // Whether a seat's actions at two places have the same names.
 fn same_names(game: &Game, one: WorldId, two: WorldId, seat: u32) -> bool
-    ensures { result ≡ recall.same_names (recall.names_at seat (place_at (game_model game.now) one.0))
-        (recall.names_at seat (place_at (game_model game.now) two.0)) }
+    ensures { result ≡ recall.same_names (action_names seat (place_at (game_model game.now) one.0))
+        (action_names seat (place_at (game_model game.now) two.0)) }
 {
     one == two || actions_of(game, one, seat) == actions_of(game, two, seat)
 }
@@ -79,7 +80,7 @@ fn same_names(game: &Game, one: WorldId, two: WorldId, seat: u32) -> bool
 // The seat's actions at a place; none at an end.
 fn actions_of(game: &Game, id: WorldId, seat: u32) -> &[ActionId]
     ensures names { action_list game.now.actions result.now
-        ≡ recall.names_at seat (place_at (game_model game.now) id.0) }
+        ≡ action_names seat (place_at (game_model game.now) id.0) }
     ensures fit { list_all (λ (i : ActionId). nat_lt i.0 (length game.now.actions)) result.now ≡ true }
 {
     match game.places.as_slice().get(id.0 as usize) {

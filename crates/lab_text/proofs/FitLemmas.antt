@@ -16,20 +16,20 @@ use Rattle.lab_world.specs.declared.place.Place.TheVariants as place
 use Rattle.lab_world.specs.declared.place.World.{World}
 use Rattle.lab_world.specs.declared.place.Row.{Row}
 use Rattle.lab_world.specs.Models.{outcome_model, row_model, world_model, place_model, action_list}
-use Rattle.lab_world.specs.Wholes.{place_fits, action_names}
+use Rattle.lab_world.specs.Wholes.{place_fits, all_action_names}
 use Rattle.lab_world.specs.Games.{game_model}
 use Rattle.lab_text.specs.Parts.{Fits}
 
 -- a game of the program is one of the definitions
 pub whole_fine : (g : Game) → GameFine (game_model g)
 whole_fine g =
-    game_fine (game_model g) (and_parts (game_ok (game_model g)) (list_all (place_fits (length g.actions)) g.places && pointwise bytes_eq g.actions (action_names [] (game_model g).places)) g.whole).0
+    game_fine (game_model g) (and_parts (game_ok (game_model g)) (list_all (place_fits (length g.actions)) g.places && pointwise bytes_eq g.actions (all_action_names [] (game_model g).places)) g.whole).0
 
 -- the ids of its actions are known
 pub whole_known : (g : Game) → list_all (place_fits (length g.actions)) g.places ≡ true
 whole_known g =
-    let rest = (and_parts (game_ok (game_model g)) (list_all (place_fits (length g.actions)) g.places && pointwise bytes_eq g.actions (action_names [] (game_model g).places)) g.whole).1 in
-    (and_parts (list_all (place_fits (length g.actions)) g.places) (pointwise bytes_eq g.actions (action_names [] (game_model g).places)) rest).0
+    let rest = (and_parts (game_ok (game_model g)) (list_all (place_fits (length g.actions)) g.places && pointwise bytes_eq g.actions (all_action_names [] (game_model g).places)) g.whole).1 in
+    (and_parts (list_all (place_fits (length g.actions)) g.places) (pointwise bytes_eq g.actions (all_action_names [] (game_model g).places)) rest).0
 
 -- it has as many places as names of places
 pub place_count : (g : Game) → length g.places ≡ length g.names

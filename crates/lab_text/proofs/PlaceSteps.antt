@@ -9,7 +9,7 @@ use Rattle.lab_defs_text.specs.Words.{Bytes, stands_in}
 use Rattle.lab_defs_text.specs.Faults.{LineFault, twice_at}
 use Rattle.lab_defs_text.specs.Texts.{name_of}
 use Rattle.lab_defs_text.specs.Lines.{world_line, end_line, root_line}
-use Rattle.lab_defs_text.specs.Reading.{rest_at, one_word, two_words, name_at, payoff_at, world_kind, end_kind, root_kind}
+use Rattle.lab_defs_text.specs.Reading.{rest_at, one_word, two_words, name_at, payoff_word, world_kind, end_kind, root_kind}
 use Rattle.lab_defs_text.specs.Drafts as draft
 use Rattle.lab_world.specs.declared.parts.PartPlace.{PartPlace}
 use Rattle.lab_world.specs.declared.parts.PartPlace.TheVariants as place
@@ -135,7 +135,7 @@ world_applied n last old closed ws w name h c a b =
 
 -- likewise the line of an end
 end_applied : (n : ℕ) (last : LineKind) (old closed : Draft) (ws : List Bytes) (w v name : Bytes) (payoff : ℤ) → length old.names ≡ length old.places.items + whole_worlds last → Closed last old closed
-    → two_words ws ≡ Ok (w, v) → name_at 2 w ≡ Ok name → payoff_at 3 v ≡ Ok payoff → applied n last old (rest_at end_kind ws) ≡ draft.unless_twice (stands_in name closed.names) (ended n last old name payoff)
+    → two_words ws ≡ Ok (w, v) → name_at 2 w ≡ Ok name → payoff_word 3 v ≡ Ok payoff → applied n last old (rest_at end_kind ws) ≡ draft.unless_twice (stands_in name closed.names) (ended n last old name payoff)
 end_applied n last old closed ws w v name payoff h c a b p =
     let read : rest_at end_kind ws ≡ Ok (end_line name payoff) = rw (a, b, p) refl in
     ap (applied n last old) read ∙ ap (λ ns. draft.unless_twice (stands_in name ns) (ended n last old name payoff)) (whole_names last old h ∙ sym c.names)
@@ -174,7 +174,7 @@ world_refused n last old closed ws w name f h c a b t =
 
 -- an end is added
 pub end_added : (n : ℕ) (last : LineKind) (old closed : Draft) (ws : List Bytes) (w v name : Bytes) (payoff : ℤ) (names : List Bytes) (pushed : List (PartPlace (Bor Bytes))) → length old.names ≡ length old.places.items + whole_worlds last
-    → Closed last old closed → two_words ws ≡ Ok (w, v) → name_at 2 w ≡ Ok name → payoff_at 3 v ≡ Ok payoff → draft.unless_twice (stands_in name closed.names) (closed.names ++ name ∷ []) ≡ Ok names
+    → Closed last old closed → two_words ws ≡ Ok (w, v) → name_at 2 w ≡ Ok name → payoff_word 3 v ≡ Ok payoff → draft.unless_twice (stands_in name closed.names) (closed.names ++ name ∷ []) ≡ Ok names
     → pushed ≡ closed.places.items ++ place.End n payoff ∷ []
     → applied n last old (rest_at end_kind ws) ≡ Ok (record {
       grid = closed.grid;
@@ -205,7 +205,7 @@ end_added n last old closed ws w v name payoff names pushed h c a b p t e =
 
 -- an end that has the name of another place
 pub end_refused : (n : ℕ) (last : LineKind) (old closed : Draft) (ws : List Bytes) (w v name : Bytes) (payoff : ℤ) (f : LineFault) → length old.names ≡ length old.places.items + whole_worlds last → Closed last old closed
-    → two_words ws ≡ Ok (w, v) → name_at 2 w ≡ Ok name → payoff_at 3 v ≡ Ok payoff → draft.unless_twice (stands_in name closed.names) (closed.names ++ name ∷ []) ≡ Err f → applied n last old (rest_at end_kind ws) ≡ Err f
+    → two_words ws ≡ Ok (w, v) → name_at 2 w ≡ Ok name → payoff_word 3 v ≡ Ok payoff → draft.unless_twice (stands_in name closed.names) (closed.names ++ name ∷ []) ≡ Err f → applied n last old (rest_at end_kind ws) ≡ Err f
 end_refused n last old closed ws w v name payoff f h c a b p t =
     end_applied n last old closed ws w v name payoff h c a b p ∙ old_is (stands_in name closed.names) (closed.names ++ name ∷ []) (ended n last old name payoff) f t
 

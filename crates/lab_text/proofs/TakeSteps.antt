@@ -7,7 +7,7 @@ use Rattle.lab_defs_text.specs.Faults.{LineFault, lexical, bad_space_at}
 use Rattle.lab_defs_text.specs.Steps.{◌>>=◌}
 use Rattle.lab_defs_text.specs.Words.{Bytes, words, first_empty}
 use Rattle.lab_defs_text.specs.Lines.{Line}
-use Rattle.lab_defs_text.specs.Reading.{Kind, line_at, words_at, of_kind, kind_of, kind_among, followers, rest_at}
+use Rattle.lab_defs_text.specs.Reading.{Kind, line_at, words_at, of_kind, kind_of, kind_among, next_kinds, rest_at}
 use Rattle.lab_defs_text.specs.Drafts.{Draft, with_line}
 use Rattle.lab_defs_text.proofs.StepLemmas.{bind_ok}
 use Rattle.lab_defs_text.proofs.ReadingLemmas.{rest_read}
@@ -18,7 +18,7 @@ abbrev pub kinded : ℕ → Kind → Draft → Result Line LineFault → Result 
 kinded n last d read = read >>= λ l. with_line n last d l >>= λ e. Ok (kind_of l, e)
 
 -- a line whose first word has a kind
-line_is : (last k : Kind) (bytes w : Bytes) (ws : List Bytes) → (first_empty 1 (words bytes) == 0) ≡ true → words bytes ≡ w ∷ ws → kind_among (followers last) w ≡ Some k → line_at last bytes ≡ rest_at k ws
+line_is : (last k : Kind) (bytes w : Bytes) (ws : List Bytes) → (first_empty 1 (words bytes) == 0) ≡ true → words bytes ≡ w ∷ ws → kind_among (next_kinds last) w ≡ Some k → line_at last bytes ≡ rest_at k ws
 line_is last k bytes w ws t p q =
     cond-true (first_empty 1 (words bytes) == 0) (words_at last (words bytes)) (Err (lexical (bad_space_at (first_empty 1 (words bytes))))) t
     ∙ ap (words_at last) p ∙ ap (λ o. of_kind o ws) q
@@ -33,7 +33,7 @@ kinded_err n last d (Err e) f q = cc
 kinded_err n last d (Ok l) f q = rw q refl
 
 -- a line is taken where its words behind the first one are
-pub take_ok : (n : ℕ) (last k : Kind) (d new : Draft) (bytes w : Bytes) (ws : List Bytes) → (first_empty 1 (words bytes) == 0) ≡ true → words bytes ≡ w ∷ ws → kind_among (followers last) w ≡ Some k
+pub take_ok : (n : ℕ) (last k : Kind) (d new : Draft) (bytes w : Bytes) (ws : List Bytes) → (first_empty 1 (words bytes) == 0) ≡ true → words bytes ≡ w ∷ ws → kind_among (next_kinds last) w ≡ Some k
     → (rest_at k ws >>= with_line n last d) ≡ Ok new → kinded n last d (line_at last bytes) ≡ Ok (k, new)
 take_ok n last k d new bytes w ws t p q e =
     let a = bind_ok (rest_at k ws) (with_line n last d) new e in
@@ -42,7 +42,7 @@ take_ok n last k d new bytes w ws t p q e =
 
 -- a line is not taken where they are not
 pub take_err : (n : ℕ) (last k : Kind) (d : Draft) (bytes w : Bytes) (ws : List Bytes) (fault : Option LineFault) → (first_empty 1 (words bytes) == 0) ≡ true → words bytes ≡ w ∷ ws
-    → kind_among (followers last) w ≡ Some k → FaultAgrees fault (rest_at k ws >>= with_line n last d) → FaultAgrees fault (kinded n last d (line_at last bytes))
+    → kind_among (next_kinds last) w ≡ Some k → FaultAgrees fault (rest_at k ws >>= with_line n last d) → FaultAgrees fault (kinded n last d (line_at last bytes))
 take_err n last k d bytes w ws fault t p q e =
     fault_same fault (rest_at k ws >>= with_line n last d) (kinded n last d (line_at last bytes))
     (λ f h. ap (kinded n last d) (line_is last k bytes w ws t p q) ∙ kinded_err n last d (rest_at k ws) f h) e

@@ -1,14 +1,14 @@
 //! The first words of lines, which tell their kinds.
 ghost use Rattle.std.specs.Prelude.{◌≡◌, option_map, true, IfSome, Some, None, if◌then◌else◌};
 ghost use Rattle.std.specs.Str.{bytes_eq};
-ghost use Rattle.lab_defs_text.specs.Reading.{kind_among, followers, token_kind, to_kind, end_kind};
+ghost use Rattle.lab_defs_text.specs.Reading.{kind_among, next_kinds, token_kind, to_kind, end_kind};
 ghost use Rattle.lab_text.specs.Drafts.{kind_is, fits_behind};
 
 use crate::line_kind::LineKind;
 
 /// The kind of line that begins with a word, among those that may follow a line of a kind.
 pub fn kind_in(last: LineKind, word: &[u8]) -> Option<LineKind>
-    ensures kind { option_map kind_is result ≡ kind_among (followers (kind_is last)) word.now }
+    ensures kind { option_map kind_is result ≡ kind_among (next_kinds (kind_is last)) word.now }
     ensures fits { IfSome result (λ k. fits_behind last k ≡ true) }
 {
     match last {
@@ -36,7 +36,7 @@ fn only_kind(word: &[u8], keyword: &[u8], kind: LineKind) -> Option<LineKind>
 }
 
 fn behind_token(word: &[u8]) -> Option<LineKind>
-    ensures kind { option_map kind_is result ≡ kind_among (followers token_kind) word.now }
+    ensures kind { option_map kind_is result ≡ kind_among (next_kinds token_kind) word.now }
     ensures fits { IfSome result (λ k. fits_behind LineKind.Token k ≡ true) }
 {
     if word == b"token".as_slice() {
@@ -52,7 +52,7 @@ fn behind_token(word: &[u8]) -> Option<LineKind>
 }
 
 fn behind_outcome(word: &[u8]) -> Option<LineKind>
-    ensures kind { option_map kind_is result ≡ kind_among (followers to_kind) word.now }
+    ensures kind { option_map kind_is result ≡ kind_among (next_kinds to_kind) word.now }
     ensures fits { IfSome result (λ k. fits_behind LineKind.To k ≡ true) }
 {
     if word == b"to".as_slice() {
@@ -65,7 +65,7 @@ fn behind_outcome(word: &[u8]) -> Option<LineKind>
 }
 
 fn behind_end(word: &[u8]) -> Option<LineKind>
-    ensures kind { option_map kind_is result ≡ kind_among (followers end_kind) word.now }
+    ensures kind { option_map kind_is result ≡ kind_among (next_kinds end_kind) word.now }
     ensures fits { IfSome result (λ k. fits_behind LineKind.End k ≡ true) }
 {
     if word == b"world".as_slice() {

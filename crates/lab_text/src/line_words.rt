@@ -3,7 +3,7 @@ ghost use Rattle.std.specs.Prelude.{◌≡◌, ◌≤◌, ◌<◌, ◌+◌, ◌^
 ghost use Rattle.lab_defs_text.specs.Agreement.{Agrees};
 ghost use Rattle.lab_defs_text.specs.Faults.{lexical, bad_space_at};
 ghost use Rattle.lab_defs_text.specs.Words.{words as words_of, first_empty};
-ghost use Rattle.lab_defs_text.specs.Reading.{no_words, one_word, two_words, five_words, name_at, names_at, whole_at, number_at, payoff_at};
+ghost use Rattle.lab_defs_text.specs.Reading.{no_words, one_word, two_words, five_words, name_at, names_at, whole_at, number_at, payoff_word};
 ghost use Rattle.lab_text.specs.Faults.{line_fault};
 ghost use Rattle.lab_text.specs.Drafts.{pieces};
 
@@ -126,7 +126,7 @@ pub fn number_in(word: &[u8], place: u32, lo: u32, hi: u32) -> Result<u32, LineF
 
 /// The payoff at a place.
 pub fn payoff_in(word: &[u8], place: u32) -> Result<i32, LineFault>
-    ensures { Agrees (λ z. z) line_fault result (payoff_at place word.now) }
+    ensures { Agrees (λ z. z) line_fault result (payoff_word place word.now) }
 {
     let payoff = whole_in(word, place, -1_048_576, 1_048_576)?;
     Ok(payoff as i32)

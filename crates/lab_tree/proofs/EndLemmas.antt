@@ -16,7 +16,7 @@ use Rattle.lab_defs_game.specs.Keys.{count, number_of, list_cmp}
 use Rattle.lab_defs_game.specs.Histories.{History, histories, is_terminal, terminal_histories}
 use Rattle.lab_defs_game.specs.Sets.{public_list}
 use Rattle.lab_defs_game.specs.Unfolding.{unfold_fault}
-use Rattle.lab_defs_game.specs.Nodes.{nodes, node_of, node_ends}
+use Rattle.lab_defs_game.specs.Nodes.{nodes, node_of, node_ends, ends_by_nodes}
 use Rattle.lab_defs_game.proofs.KeyLemmas.{length_merged}
 use Rattle.lab_defs_game.proofs.NumberLemmas.{number_at, at_number, number_below, count_none, place_of_in}
 use Rattle.lab_defs_game.proofs.Orders.{list_total, list_exact}
@@ -26,7 +26,7 @@ use Rattle.lab_defs_game.proofs.HistoryCounts.{history_count_law}
 use Rattle.lab_defs_game.proofs.UnfoldLaws.{accepted_law}
 use Rattle.lab_unfold.proofs.ChildLemmas.{map_flat}
 use Rattle.lab_tree.specs.declared.end.End.{End}
-use Rattle.lab_tree.specs.Ends.{ends_by_nodes, end_in, ends_before, end_starts, parts_of, CutsFrom, AreCuts}
+use Rattle.lab_tree.specs.Ends.{end_in, ends_before, end_starts, parts_of, CutsFrom, AreCuts}
 use Rattle.lab_tree.proofs.Grouping.{with_key, sorted_is}
 use Rattle.lab_tree.proofs.Parts.{count-append, count_whole, part_start, part_ends, starts_are, ends_rise, parts_are}
 

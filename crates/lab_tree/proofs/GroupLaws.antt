@@ -14,7 +14,8 @@ use Rattle.lab_math.proofs.Members.{In, in_get_or}
 use Rattle.lab_defs_text.specs.Games.{GameModel}
 use Rattle.lab_defs_game.specs.Histories.{reached}
 use Rattle.lab_defs_game.specs.Keys.{list_cmp}
-use Rattle.lab_defs_game.specs.Nodes.{nodes, node_number, parent}
+use Rattle.lab_defs_game.specs.Nodes.{nodes, node_number}
+use Rattle.lab_defs_game.specs.Paths.{parent}
 use Rattle.lab_defs_game.specs.Sets.{Item, item_of, publics, seen, item_cmp, set_cmp, sets, set_number}
 use Rattle.lab_defs_game.proofs.GameLemmas.{Follows, set_cases, set_has, sets_ascending, nodes_ascending, parent_is}
 use Rattle.lab_defs_game.proofs.HistoryOrder.{nat_cmp-less}

@@ -10,7 +10,7 @@ use Rattle.std.proofs.lemmas.List.FromFn.{length-map-range_with_len, get_or-map-
 use Rattle.std.proofs.Math.Seq.{take-append_seam, get_or-append_seam}
 use Rattle.lab_math.proofs.Members.{In, in_get_or, in_from_filter}
 use Rattle.lab_defs_text.specs.Games.{GameModel}
-use Rattle.lab_defs_game.specs.Forms.{Taken}
+use Rattle.lab_defs_game.specs.Paths.{SetAction, parent, is_taken}
 use Rattle.lab_defs_game.specs.Keys.{count, number_of, list_cmp}
 use Rattle.lab_defs_game.specs.Nodes as model
 use Rattle.lab_defs_game.specs.Sets.{Item, publics, seen, set_cmp, sets, set_number}
@@ -177,48 +177,48 @@ begun_same a b P e f n =
     sym (take-append_seam a r.0) ∙ ap (take (length a)) (sym r.1) ∙ ap (λ k. take k P) n ∙ ap (take (length b)) q.1 ∙ take-append_seam b q.0
 
 -- what is found to be a step is that step
-taken_is : (t : Taken) (o : Option Taken) → model.is_taken t o ≡ true → o ≡ Some t
+taken_is : (t : SetAction) (o : Option SetAction) → is_taken t o ≡ true → o ≡ Some t
 taken_is t None e = absurd (never e)
   where
     never : false ≡ true → ⊥
     never e = cc
 taken_is t (Some u) e =
-    let b = and_parts (t.set == u.set) (t.action == u.action) e in
-    ap (λ n. told n u.action) (sym (eqb-true t.set u.set b.0)) ∙ ap (told t.set) (sym (eqb-true t.action u.action b.1))
+    let b = and_parts (u.set == t.set) (u.action == t.action) e in
+    ap (λ n. told n u.action) (eqb-true u.set t.set b.0) ∙ ap (told t.set) (eqb-true u.action t.action b.1)
   where
-    told : ℕ → ℕ → Option Taken
+    told : ℕ → ℕ → Option SetAction
     told n a = Some (record { set = n; action = a })
 
 -- a step is found to be itself, also as the program has it
-taken_from_told : (t : Taken) (o : Option Taken) → Some (taken_in t) ≡ option_map taken_in o → model.is_taken t o ≡ true
+taken_from_told : (t : SetAction) (o : Option SetAction) → Some (taken_in t) ≡ option_map taken_in o → is_taken t o ≡ true
 taken_from_told t None e = absurd (never (taken_in t) e)
   where
     never : (q : SetId × ℕ) → ◌≡◌ {A = Option (SetId × ℕ)} (Some q) None → ⊥
     never q e = cc
 taken_from_told t (Some u) e =
-    and_from (t.set == u.set) (t.action == u.action) (eq-eqb t.set u.set (of_some (λ q. q.0.0) e)) (eq-eqb t.action u.action (of_some (λ q. q.1) e))
+    and_from (u.set == t.set) (u.action == t.action) (eq-eqb u.set t.set (sym (of_some (λ q. q.0.0) e))) (eq-eqb u.action t.action (sym (of_some (λ q. q.1) e)))
   where
     of_some : (f : SetId × ℕ → ℕ) → ◌≡◌ {A = Option (SetId × ℕ)} (Some (taken_in t)) (Some (taken_in u)) → f (taken_in t) ≡ f (taken_in u)
     of_some f e = ap (λ (o : Option (SetId × ℕ)). elim o [ Some q ↦ f q | None ↦ 0 ]) e
 
 module _ (g : GameModel) (seat : ℕ) (P : List ℕ) where
   -- how long the list of a set that follows a step is
-  follows_long : (y : List Item) (t : Taken) → model.parent g seat y ≡ Some t → (f : Follows g seat y) → (set_number g seat (seen g seat f.history) ≡ t.set) × (length (publics y) ≡ length (seen g seat f.history) + 1)
+  follows_long : (y : List Item) (t : SetAction) → parent g seat y ≡ Some t → (f : Follows g seat y) → (set_number g seat (seen g seat f.history) ≡ t.set) × (length (publics y) ≡ length (seen g seat f.history) + 1)
   follows_long y t e f = (of_some (sym (parent_is g seat y f) ∙ e), length-map y (λ (q : Item). q.public) ∙ ap length f.made ∙ length-append (seen g seat f.history) (_ ∷ []))
     where
-      of_some : {u v : Taken} → ◌≡◌ {A = Option Taken} (Some u) (Some v) → u.set ≡ v.set
-      of_some {u} {v} e = ap (λ (o : Option Taken). elim o [ Some q ↦ q.set | None ↦ 0 ]) e
+      of_some : {u v : SetAction} → ◌≡◌ {A = Option SetAction} (Some u) (Some v) → u.set ≡ v.set
+      of_some {u} {v} e = ap (λ (o : Option SetAction). elim o [ Some q ↦ q.set | None ↦ 0 ]) e
 
   -- sets that follow one step have lists of one length
-  same_long : (y z : List Item) (t : Taken) → In y (sets g seat) → In z (sets g seat) → model.parent g seat y ≡ Some t → model.parent g seat z ≡ Some t → length (publics y) ≡ length (publics z)
+  same_long : (y z : List Item) (t : SetAction) → In y (sets g seat) → In z (sets g seat) → parent g seat y ≡ Some t → parent g seat z ≡ Some t → length (publics y) ≡ length (publics z)
   same_long y z t i j e f = at (set_cases g seat y i) (set_cases g seat z j)
     where
-      never : ◌≡◌ {A = Option Taken} None (Some t) → ⊥
+      never : ◌≡◌ {A = Option SetAction} None (Some t) → ⊥
       never q = cc
 
       at : (y ≡ []) ⊎ Follows g seat y → (z ≡ []) ⊎ Follows g seat z → length (publics y) ≡ length (publics z)
-      at (inl n) fz = absurd (never (sym (ap (model.parent g seat) n) ∙ e))
-      at (inr fy) (inl n) = absurd (never (sym (ap (model.parent g seat) n) ∙ f))
+      at (inl n) fz = absurd (never (sym (ap (parent g seat) n) ∙ e))
+      at (inr fy) (inl n) = absurd (never (sym (ap (parent g seat) n) ∙ f))
       at (inr fy) (inr fz) =
           let a = follows_long y t e fy in
           let b = follows_long z t f fz in
@@ -226,21 +226,21 @@ module _ (g : GameModel) (seat : ℕ) (P : List ℕ) where
           a.1 ∙ ap (λ q. length q + 1) same ∙ sym b.1
 
   -- the kin of a set of a path that follows a step are the sets of the path that do so
-  pub kin_on_path : (y z : List Item) (t : Taken) → In y (sets g seat) → model.begins (publics y) P ≡ true → model.parent g seat y ≡ Some t → In z (sets g seat)
-      → is_kin (set_in g seat y) (set_in g seat z) ≡ (model.begins (publics z) P && model.is_taken t (model.parent g seat z))
-  kin_on_path y z t i b e j = both_ways (is_kin (set_in g seat y) (set_in g seat z)) (model.begins (publics z) P && model.is_taken t (model.parent g seat z)) there back
+  pub kin_on_path : (y z : List Item) (t : SetAction) → In y (sets g seat) → model.begins (publics y) P ≡ true → parent g seat y ≡ Some t → In z (sets g seat)
+      → is_kin (set_in g seat y) (set_in g seat z) ≡ (model.begins (publics z) P && is_taken t (parent g seat z))
+  kin_on_path y z t i b e j = both_ways (is_kin (set_in g seat y) (set_in g seat z)) (model.begins (publics z) P && is_taken t (parent g seat z)) there back
     where
-      there : is_kin (set_in g seat y) (set_in g seat z) ≡ true → (model.begins (publics z) P && model.is_taken t (model.parent g seat z)) ≡ true
+      there : is_kin (set_in g seat y) (set_in g seat z) ≡ true → (model.begins (publics z) P && is_taken t (parent g seat z)) ≡ true
       there k =
           let both = kin_is (set_in g seat y) (set_in g seat z) k in
           let lists = number_same list_cmp list_total (model.nodes g) (publics y) (publics z) (nodes_ascending g) (set_at_node g seat y i) (set_at_node g seat z j) both.0 in
-          and_from (model.begins (publics z) P) (model.is_taken t (model.parent g seat z)) (ap (λ q. model.begins q P) (sym lists) ∙ b)
-          (taken_from_told t (model.parent g seat z) (sym (ap (option_map taken_in) e) ∙ both.1))
+          and_from (model.begins (publics z) P) (is_taken t (parent g seat z)) (ap (λ q. model.begins q P) (sym lists) ∙ b)
+          (taken_from_told t (parent g seat z) (sym (ap (option_map taken_in) e) ∙ both.1))
 
-      back : (model.begins (publics z) P && model.is_taken t (model.parent g seat z)) ≡ true → is_kin (set_in g seat y) (set_in g seat z) ≡ true
+      back : (model.begins (publics z) P && is_taken t (parent g seat z)) ≡ true → is_kin (set_in g seat y) (set_in g seat z) ≡ true
       back k =
-          let both = and_parts (model.begins (publics z) P) (model.is_taken t (model.parent g seat z)) k in
-          let f = taken_is t (model.parent g seat z) both.1 in
+          let both = and_parts (model.begins (publics z) P) (is_taken t (parent g seat z)) k in
+          let f = taken_is t (parent g seat z) both.1 in
           let lists = begun_same (publics y) (publics z) P b both.0 (same_long y z t i j e f) in
           kin_from (set_in g seat y) (set_in g seat z) (ap (model.node_number g) lists) (ap (option_map taken_in) (e ∙ sym f))
 

@@ -12,9 +12,9 @@ use Rattle.lab_defs_game.specs.Nodes as nodes
 use Rattle.lab_defs_game.specs.Sets.{public_list}
 use Rattle.lab_defs_game.proofs.KeyLemmas.{length_merged, sorted_from_ascending}
 use Rattle.lab_defs_game.proofs.Legal.{history_legal}
-use Rattle.lab_defs_game.proofs.NumberLemmas.{count_le_length}
+use Rattle.lab_defs_game.proofs.NumberLemmas.{count_le_length, length-filter}
 use Rattle.lab_defs_game.proofs.Orders.{list_total, list_exact}
-use Rattle.lab_defs_game.proofs.TreeLaws.{length-filter, depth_law}
+use Rattle.lab_defs_game.proofs.TreeLaws.{depth_law}
 use Rattle.lab_seen.specs.Firsts.{AreFirsts, one_node}
 use Rattle.lab_unfold.specs.Values.{Unfolded, unfolded}
 use Rattle.lab_tree.specs.declared.info.NodeId.{NodeId}

@@ -9,12 +9,11 @@ use Rattle.lab_defs_game.specs.Nodes as nodes
 use Rattle.lab_defs_game.specs.Recall.{recall_fault}
 use Rattle.lab_defs_game.specs.Sets.{seen, set_cmp, sets}
 use Rattle.lab_defs_game.proofs.KeyLemmas.{length_merged}
-use Rattle.lab_defs_game.proofs.NumberLemmas.{count_le_length}
+use Rattle.lab_defs_game.proofs.NumberLemmas.{count_le_length, length-filter}
 use Rattle.lab_defs_game.proofs.RecallLemmas.{recall_law}
-use Rattle.lab_defs_game.proofs.TreeLaws.{length-filter}
 use Rattle.lab_unfold.specs.Values.{history_in, unfolded}
 use Rattle.lab_tree.specs.SetValues.{sets_in}
-use Rattle.lab_tree.specs.TreeForms.{IsPlayable}
+use Rattle.lab_defs_game.specs.Accepted.{IsAccepted}
 use Rattle.lab_tree.specs.TreeParts.{AreParts, AreSeatParts, parts_in, paths_in, seat_with, tree_with}
 use Rattle.lab_tree.specs.NodeValues.{nodes_in, parent_node, without_last}
 use Rattle.lab_tree.specs.WayLaws.{tree_sets, AreStarts, AreParents, IsParentNode}
@@ -28,7 +27,7 @@ use Rattle.lab_tree.specs.Places.{item_of, AreAtNodes}
 use Rattle.lab_tree.specs.Ways.{AreWays, bases_of}
 use Rattle.std.proofs.lemmas.List.FromFn.{length-map-range_with_len}
 use Rattle.lab_tree.specs.Trees.{node_id, row_in, seat_in, set_at, set_in, span_in, tree_of}
-use Rattle.lab_tree.specs.Ends.{ends_by_nodes}
+use Rattle.lab_defs_game.specs.Nodes.{ends_by_nodes}
 use Rattle.lab_tree.proofs.EndLemmas.{histories_few}
 use Rattle.lab_tree.proofs.FormLaws.{form_parts_law, rows_are}
 use Rattle.lab_tree.proofs.RowLemmas.{ends_few}
@@ -50,12 +49,12 @@ sets_few g seat =
     )
 
 -- the parts of a seat
-seat_parts : (g : GameModel) (seat : ℕ) → IsPlayable g → AreSeatParts (length (map (history_in g) (histories g))) (length (nodes.nodes g)) (sets_in g seat)
+seat_parts : (g : GameModel) (seat : ℕ) → IsAccepted g → AreSeatParts (length (map (history_in g) (histories g))) (length (nodes.nodes g)) (sets_in g seat)
 seat_parts g seat ok = record {
   set_of = length-map (histories g) (set_at g seat) ∙ sym (length-map (histories g) (history_in g));
   node_sets = length-map (nodes.nodes g) (λ p. map (set_in g seat) (nodes.node_sets g seat p));
   spans = length-map (nodes.nodes g) (span_in g seat);
-  few = omega (arith, length-map (sets g seat) (set_in g seat), sets_few g seat, histories_few g ok.accepted);
+  few = omega (arith, length-map (sets g seat) (set_in g seat), sets_few g seat, histories_few g ok.unfolds);
 }
 
 -- the sets of a seat start at their nodes
@@ -95,7 +94,7 @@ seat_paths g seat =
     record { ways = subst (λ k. AreWays k (sets_in g seat).starts (nodes_in g).parents) (sym n) (ways_are g seat); bases = refl }
 
 -- all parts
-pub parts_are : (g : GameModel) → IsPlayable g → AreParts (parts_in g)
+pub parts_are : (g : GameModel) → IsAccepted g → AreParts (parts_in g)
 parts_are g ok = record {
   node_of = length-map (histories g) (λ h. node_id (nodes.node_of g h)) ∙ sym (length-map (histories g) (history_in g));
   parents = length-map (nodes.nodes g) (parent_node g);
@@ -105,7 +104,7 @@ parts_are g ok = record {
   two = seat_parts g 2 ok;
   node_rows = length-map (nodes.nodes g) (λ p. map (row_in g) (nodes.node_ends g p));
   form = form_parts_law g ok;
-  few = omega (arith, ap length (rows_are g), length-map (ends_by_nodes g) (row_in g), ends_few g, histories_few g ok.accepted);
+  few = omega (arith, ap length (rows_are g), length-map (ends_by_nodes g) (row_in g), ends_few g, histories_few g ok.unfolds);
 }
 
 -- the parts of the tree of a game make it

@@ -5,11 +5,11 @@ use Rattle.std.proofs.lemmas.List.{take-map, same_lists, get_or-map, get_or_defa
 use Rattle.std.proofs.lemmas.List.FromFn.{length-map-range_with_len, get_or-map-range_with_len}
 use Rattle.lab_math.proofs.Members.{In, in_get_or, in_from_filter}
 use Rattle.lab_defs_text.specs.Games.{GameModel}
-use Rattle.lab_defs_game.specs.Forms.{Taken}
+use Rattle.lab_defs_game.specs.Paths.{SetAction, parent, is_taken}
 use Rattle.lab_defs_game.specs.Keys.{count}
 use Rattle.lab_defs_game.specs.Nodes as model
 use Rattle.lab_defs_game.specs.Sets.{Item, publics, sets, set_number}
-use Rattle.lab_defs_game.proofs.NumberLemmas.{count_cong}
+use Rattle.lab_defs_game.proofs.NumberLemmas.{count_cong, length-filter}
 use Rattle.lab_defs_game.proofs.PathItems.{follow_law}
 use Rattle.lab_form.specs.declared.items.SetId.{SetId}
 use Rattle.lab_tree.specs.declared.info.NodeId.{NodeId}
@@ -60,7 +60,7 @@ module _ (g : GameModel) (seat : ℕ) (starts : List ℕ) (parents : List (Optio
       j = set_number g seat y
 
       -- how it follows is as the path says
-      follow_same : (t : Taken) → model.parent g seat y ≡ Some t
+      follow_same : (t : SetAction) → parent g seat y ≡ Some t
           → follow_of (tree_sets g seat) starts (bases_of starts parents) j (Some (taken_in t)) ≡ option_map follow_in (model.follow_at g seat node k (Some t))
       follow_same t e =
           ap (λ m. told m (place_at (tree_sets g seat) j) (kin_count (tree_sets g seat) j)) from
@@ -73,8 +73,8 @@ module _ (g : GameModel) (seat : ℕ) (starts : List ℕ) (parents : List (Optio
           f : model.Follow
           f = record { before = model.path_place g seat (get_or (model.nodes g) n []) t.set; action = t.action; place = model.following g seat t (take k (model.path g seat (get_or (model.nodes g) n []))); total = model.following g seat t (model.path g seat (get_or (model.nodes g) n [])) }
 
-          of_some : {u v : Taken} → ◌≡◌ {A = Option Taken} (Some u) (Some v) → u.set ≡ v.set
-          of_some {u} {v} q = ap (λ (o : Option Taken). elim o [ Some r ↦ r.set | None ↦ 0 ]) q
+          of_some : {u v : SetAction} → ◌≡◌ {A = Option SetAction} (Some u) (Some v) → u.set ≡ v.set
+          of_some {u} {v} q = ap (λ (o : Option SetAction). elim o [ Some r ↦ r.set | None ↦ 0 ]) q
 
           from : index_of (tree_sets g seat) starts (bases_of starts parents) t.set ≡ model.path_place g seat (get_or (model.nodes g) n []) t.set
           from =
@@ -82,35 +82,37 @@ module _ (g : GameModel) (seat : ℕ) (starts : List ℕ) (parents : List (Optio
               let number : set_number g seat (get_or way f.before []) ≡ t.set = of_some (sym law.1 ∙ e) in
               ap (index_of (tree_sets g seat) starts (bases_of starts parents)) (sym number) ∙ index_on f.before (omega (arith, law.0, h))
 
-          kin : (z : List Item) → In z (sets g seat) → is_kin (set_read (tree_sets g seat) j) (set_in g seat z) ≡ (model.begins (publics z) node && model.is_taken t (model.parent g seat z))
+          kin : (z : List Item) → In z (sets g seat) → is_kin (set_read (tree_sets g seat) j) (set_in g seat z) ≡ (model.begins (publics z) node && is_taken t (parent g seat z))
           kin z i = ap (λ w. is_kin w (set_in g seat z)) (read_own g seat starts parents s p y on.0) ∙ kin_on_path g seat node y z t on.0 on.1 e i
 
           total : kin_count (tree_sets g seat) j ≡ model.following g seat t (model.path g seat (get_or (model.nodes g) n []))
           total =
               count-map (is_kin (set_read (tree_sets g seat) j)) (set_in g seat) (sets g seat)
-              ∙ count_cong (λ z. is_kin (set_read (tree_sets g seat) j) (set_in g seat z)) (λ z. model.begins (publics z) node && model.is_taken t (model.parent g seat z)) (sets g seat) kin
-              ∙ sym (count-filter (λ z. model.begins (publics z) node) (λ z. model.is_taken t (model.parent g seat z)) (sets g seat))
+              ∙ count_cong (λ z. is_kin (set_read (tree_sets g seat) j) (set_in g seat z)) (λ z. model.begins (publics z) node && is_taken t (parent g seat z)) (sets g seat) kin
+              ∙ sym (count-filter (λ z. model.begins (publics z) node) (λ z. is_taken t (parent g seat z)) (sets g seat))
+              ∙ sym (length-filter (λ z. is_taken t (parent g seat z)) (model.path g seat node))
 
           place : place_at (tree_sets g seat) j ≡ model.following g seat t (take k (model.path g seat (get_or (model.nodes g) n [])))
           place =
               ap (count (is_kin (set_read (tree_sets g seat) j))) (take-map (set_in g seat) j (sets g seat))
               ∙ count-map (is_kin (set_read (tree_sets g seat) j)) (set_in g seat) (take j (sets g seat))
-              ∙ count_cong (λ z. is_kin (set_read (tree_sets g seat) j) (set_in g seat z)) (λ z. model.begins (publics z) node && model.is_taken t (model.parent g seat z)) (take j (sets g seat))
+              ∙ count_cong (λ z. is_kin (set_read (tree_sets g seat) j) (set_in g seat z)) (λ z. model.begins (publics z) node && is_taken t (parent g seat z)) (take j (sets g seat))
               (λ z i. kin z (from_take j (sets g seat) z i))
-              ∙ sym (count-filter (λ z. model.begins (publics z) node) (λ z. model.is_taken t (model.parent g seat z)) (take j (sets g seat)))
-              ∙ ap (count (λ z. model.is_taken t (model.parent g seat z))) (sym (take_path g seat node k h on.0 on.1))
+              ∙ sym (count-filter (λ z. model.begins (publics z) node) (λ z. is_taken t (parent g seat z)) (take j (sets g seat)))
+              ∙ ap (count (λ z. is_taken t (parent g seat z))) (sym (take_path g seat node k h on.0 on.1))
+              ∙ sym (length-filter (λ z. is_taken t (parent g seat z)) (take k way))
 
       -- a set of the path is, as an item, what the path says
       item_same : made g seat starts parents s p y ≡ path_item_in (model.path_item g seat node k)
       item_same =
           ap (λ (w : SetInfo). told w.id (follow_of (tree_sets g seat) starts (bases_of starts parents) j w.parent)) (read_own g seat starts parents s p y on.0)
-          ∙ ap (told (set_id j)) (at (model.parent g seat y) refl)
+          ∙ ap (told (set_id j)) (at (parent g seat y) refl)
         where
           told : SetId → Option Follow → PathItem
           told i o = record { set = i; follows = o }
 
-          at : (o : Option Taken) → model.parent g seat (get_or (model.path g seat (get_or (model.nodes g) n [])) k []) ≡ o
-              → follow_of (tree_sets g seat) starts (bases_of starts parents) j (option_map taken_in (model.parent g seat y)) ≡ option_map follow_in (model.follow_at g seat node k (model.parent g seat y))
+          at : (o : Option SetAction) → parent g seat (get_or (model.path g seat (get_or (model.nodes g) n [])) k []) ≡ o
+              → follow_of (tree_sets g seat) starts (bases_of starts parents) j (option_map taken_in (parent g seat y)) ≡ option_map follow_in (model.follow_at g seat node k (parent g seat y))
           at None e =
               ap (λ o. follow_of (tree_sets g seat) starts (bases_of starts parents) j (option_map taken_in o)) e ∙ sym (ap (λ o. option_map follow_in (model.follow_at g seat node k o)) e)
           at (Some t) e =

@@ -8,7 +8,7 @@ use Rattle.std.proofs.lemmas.Cmp.{then_total, on_total, tied_itself}
 use Rattle.std.proofs.lemmas.Int.{ints}
 use Rattle.std.proofs.lemmas.List.{get_or-map, length-map}
 use Rattle.lab_math.specs.Sums.{total}
-use Rattle.lab_math.proofs.Members.{In, all_in, all_from_in, in_from_filter, in_from_flat_map, in_get_or}
+use Rattle.lab_math.proofs.Members.{In, all_in, all_from_in, in_from_filter, in_get_or}
 use Rattle.lab_defs_text.specs.Games.{GameModel}
 use Rattle.lab_defs_text.specs.Texts.{place_at, is_world}
 use Rattle.lab_defs_game.specs.Keys.{count, number_of, list_cmp}
@@ -16,31 +16,30 @@ use Rattle.lab_defs_game.specs.Histories as model
 use Rattle.lab_defs_game.specs.Chance.{chance}
 use Rattle.lab_defs_game.specs.Laws.{history_cmp}
 use Rattle.lab_defs_game.specs.Sets.{public_list, seen, set_number}
-use Rattle.lab_defs_game.specs.Nodes.{nodes, node_ends}
+use Rattle.lab_defs_game.specs.Nodes.{nodes, node_ends, ends_by_nodes}
 use Rattle.lab_defs_game.specs.Unfolding.{unfold_fault}
-use Rattle.lab_defs_game.proofs.Groups.{node_end_law}
+use Rattle.lab_defs_game.proofs.Groups.{ends_total, ends_from, ends_length}
 use Rattle.lab_defs_game.proofs.HistoryOrder.{history_total, ascending_flat_map}
 use Rattle.lab_defs_game.proofs.KeyLemmas.{Ascending, filter_ascending}
 use Rattle.lab_defs_game.proofs.Legal.{history_legal}
-use Rattle.lab_defs_game.proofs.NumberLemmas.{number_at, at_number, number_below, count_le_length, is_true_or, count_at_true, count_at_false}
+use Rattle.lab_defs_game.proofs.NumberLemmas.{number_at, at_number, number_below, count_le_length, length-filter, is_true_or, count_at_true, count_at_false}
 use Rattle.lab_defs_game.proofs.Orders.{list_total, list_exact}
 use Rattle.lab_defs_game.proofs.Spans.{eq_is}
 use Rattle.lab_defs_game.proofs.GameLemmas.{nodes_ascending, steps_inner}
-use Rattle.lab_defs_game.proofs.TreeLaws.{along_law, length-filter}
+use Rattle.lab_defs_game.proofs.TreeLaws.{along_law}
 use Rattle.lab_defs_game.proofs.UnfoldLaws.{accepted_law}
 use Rattle.lab_unfold.proofs.LevelLemmas.{ascending, number_is}
 use Rattle.lab_unfold.specs.Values.{Unfolded, unfolded, history_number, step_in}
 use Rattle.lab_unfold.specs.declared.history.Step.{Step}
 use Rattle.lab_unfold.proofs.ParentLemmas.{history_at, Behind}
 use Rattle.lab_unfold.proofs.SizeLemmas.{scale_le}
-use Rattle.lab_laws.proofs.SizeChance.{chance_le}
+use Rattle.lab_defs_game.proofs.ChanceSizes.{chance_le}
 use Rattle.lab_units.specs.declared.worth.Worth.{Worth}
 use Rattle.lab_form.specs.declared.items.SetId.{SetId}
 use Rattle.lab_tree.specs.declared.end.End.{End}
 use Rattle.lab_tree.specs.declared.info.RowInfo.{RowInfo}
 use Rattle.lab_tree.specs.Trees.{row_cmp, set_id, set_at, taken_in, last_in, row_in}
-use Rattle.lab_tree.specs.Ends.{ends_by_nodes, end_in}
-use Rattle.lab_tree.proofs.Parts.{count_whole}
+use Rattle.lab_tree.specs.Ends.{end_in}
 use Rattle.lab_tree.proofs.Reading.{items_count}
 
 -- ---- counting
@@ -64,7 +63,7 @@ count_total p (x ∷ xs) = let rest = count_total p xs in at (is_true_or (p x)) 
 count_ends : (g : GameModel) (p : model.History → Bool) → count p (ends_by_nodes g) ≡ count p (model.terminal_histories g)
 count_ends g p =
     inside (count p (ends_by_nodes g)) (count p (model.terminal_histories g))
-    (count_total p (ends_by_nodes g) ∙ node_end_law g (λ h. cond (p h) (pos 1) (pos 0)) ∙ sym (count_total p (model.terminal_histories g)))
+    (count_total p (ends_by_nodes g) ∙ ends_total g (λ h. cond (p h) (pos 1) (pos 0)) ∙ sym (count_total p (model.terminal_histories g)))
   where
     inside : (m n : ℕ) → pos m ≡ pos n → m ≡ n
     inside m n e = cc
@@ -72,21 +71,11 @@ count_ends g p =
 -- there are no more of them than histories
 pub ends_few : (g : GameModel) → length (ends_by_nodes g) ≤ length (model.histories g)
 ends_few g =
-    omega (
-      arith,
-      count_whole (λ h. true) (ends_by_nodes g) (λ h i. refl),
-      count_ends g (λ h. true),
-      count_whole (λ h. true) (model.terminal_histories g) (λ h i. refl),
-      length-filter (model.is_terminal g) (model.histories g),
-      count_le_length (model.is_terminal g) (model.histories g),
-    )
+    omega (arith, ends_length g, length-filter (model.is_terminal g) (model.histories g), count_le_length (model.is_terminal g) (model.histories g))
 
 -- each is a history, and terminal
 pub end_there : (g : GameModel) (h : model.History) → In h (ends_by_nodes g) → In h (model.histories g) × (model.is_terminal g h ≡ true)
-end_there g h i =
-    let r = in_from_flat_map (node_ends g) (nodes g) h i in
-    let z = in_from_filter (λ h. is_eq (list_cmp (public_list g h) r.0)) (model.terminal_histories g) h r.2 in
-    in_from_filter (model.is_terminal g) (model.histories g) h z.0
+end_there g h i = in_from_filter (model.is_terminal g) (model.histories g) h (ends_from g h i)
 
 -- ---- numbers of rows
 

@@ -10,7 +10,8 @@ use Rattle.std.proofs.lemmas.List.{get_or-map, length-map}
 use Rattle.lab_math.proofs.Members.{in_get_or}
 use Rattle.lab_defs_text.specs.Games.{GameModel}
 use Rattle.lab_defs_game.specs.Keys.{count, list_cmp}
-use Rattle.lab_defs_game.specs.Nodes.{nodes, node_number, parent}
+use Rattle.lab_defs_game.specs.Nodes.{nodes, node_number}
+use Rattle.lab_defs_game.specs.Paths.{parent}
 use Rattle.lab_defs_game.specs.Sets.{Item, publics, seen, item_cmp, set_cmp, sets, set_number}
 use Rattle.lab_defs_game.proofs.GameLemmas.{Follows, set_cases, sets_ascending, nodes_ascending, parent_is, parent_before}
 use Rattle.lab_defs_game.proofs.NumberLemmas.{HoldsUpTo, passes_at, number_at, number_below, lt_is}

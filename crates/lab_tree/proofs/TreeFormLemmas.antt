@@ -4,41 +4,45 @@ use Rattle.std.specs.Prelude.{nat_le, ◌==◌}
 use Rattle.std.specs.List.{range_with_len}
 use Rattle.std.proofs.lemmas.List.{get_or-map, length-map}
 use Rattle.std.proofs.lemmas.List.FromFn.{get_or-map-range_with_len}
-use Rattle.lab_defs_game.specs.Forms.{Taken, decides, deciding}
+use Rattle.lab_defs_game.specs.Forms as forms
+use Rattle.lab_defs_game.specs.Paths.{SetAction}
 use Rattle.lab_defs_game.proofs.FormLemmas.{count_push}
 use Rattle.lab_defs_game.proofs.NumberLemmas.{count_le_length}
-use Rattle.lab_form.specs.declared.items.SetId.{SetId}
 use Rattle.lab_form.specs.declared.items.FormSet.{FormSet}
 use Rattle.lab_form.specs.declared.items.FormRow.{FormRow}
-use Rattle.lab_form.specs.Forms.{FormValue, sets_of, actions_in, parent_of, whole_path, taken_model, AreSets, AreRows, IsNextSet, IsNextRow}
-use Rattle.lab_form.proofs.PathLemmas.{path_step, path_short}
-use Rattle.lab_tree.specs.Trees.{set_id}
+use Rattle.lab_form.specs.Forms.{FormValue, sets_of, sets_model, whole_path, AreSets, AreRows, IsNextSet, IsNextRow}
+use Rattle.lab_form.proofs.PathLemmas.{ParentsBelow, chain_step, chain_short, model_length, model_actions, model_parent, parents_below}
 use Rattle.lab_tree.specs.declared.info.SetInfo.{SetInfo}
 use Rattle.lab_tree.specs.declared.info.RowInfo.{RowInfo}
-use Rattle.lab_tree.specs.TreeForms.{decisions_at, form_set, form_sets, form_row, with_sets}
+use Rattle.lab_tree.specs.TreeForms.{form_set, form_sets, form_row, with_sets}
 
--- the deciding sets on the way up to a step are those up to its set
-pub decisions_of : (sets : List FormSet) (t : SetId × ℕ) → AreSets sets → t.0.0 < length sets → deciding (actions_in sets) (whole_path sets (Some t)) ≡ decisions_at sets t.0.0
-decisions_of sets t ok l =
-    ap (deciding (actions_in sets)) (path_step sets t ok l) ∙ count_push test (whole_path sets (parent_of sets t.0.0)) (taken_model t)
-    ∙ sym (ap (deciding (actions_in sets)) (path_step sets (set_id t.0.0, 0) ok l) ∙ count_push test (whole_path sets (parent_of sets t.0.0)) (taken_model (set_id t.0.0, 0)))
+-- the deciding sets on the chain up to a step are those up to its set
+pub decisions_of : (sets : List forms.FormSet) (t : SetAction) → ParentsBelow sets → t.set < length sets → forms.deciding (forms.actions_in sets) (forms.chain sets (Some t)) ≡ forms.decisions_to sets t.set
+decisions_of sets t ok l = one t l ∙ sym (one (record { set = t.set; action = 0 }) l)
   where
-    test : Taken → Bool
-    test u = decides (actions_in sets) u.set
+    one : (t : SetAction) → t.set < length sets
+        → forms.deciding (forms.actions_in sets) (forms.chain sets (Some t)) ≡ forms.deciding (forms.actions_in sets) (forms.chain sets (forms.parent_at sets t.set)) + cond (forms.decides (forms.actions_in sets) t.set) 1 0
+    one t l =
+        ap (forms.deciding (forms.actions_in sets)) (chain_step sets t ok l)
+        ∙ count_push (λ (u : SetAction). forms.decides (forms.actions_in sets) u.set) (forms.chain sets (forms.parent_at sets t.set)) t
 
 -- they are those up to the parent, with the set's own
 pub decisions_next : (sets : List FormSet) (i : ℕ) (d : FormSet) → AreSets sets → i < length sets
-    → decisions_at sets i ≡ deciding (actions_in sets) (whole_path sets (get_or sets i d).parent) + cond (nat_le 2 (get_or sets i d).actions) 1 0
+    → forms.decisions_to (sets_model sets) i ≡ forms.deciding (forms.actions_in (sets_model sets)) (whole_path sets (get_or sets i d).parent) + cond (nat_le 2 (get_or sets i d).actions) 1 0
 decisions_next sets i d ok l =
-    ap (deciding (actions_in sets)) (path_step sets (set_id i, 0) ok l)
-    ∙ count_push (λ (u : Taken). decides (actions_in sets) u.set) (whole_path sets (parent_of sets i)) (taken_model (set_id i, 0))
-    ∙ ap (λ o. deciding (actions_in sets) (whole_path sets o) + cond (decides (actions_in sets) i) 1 0) (get_or-map (λ (s : FormSet). s.parent) sets i d None l)
-    ∙ ap (λ n. deciding (actions_in sets) (whole_path sets (get_or sets i d).parent) + cond (nat_le 2 n) 1 0) (get_or-map (λ (s : FormSet). s.actions) sets i d 0 l)
+    ap (forms.deciding ns) (chain_step (sets_model sets) (record { set = i; action = 0 }) (parents_below sets ok) (subst (λ n. i < n) (sym (model_length sets)) l))
+    ∙ count_push (λ (u : SetAction). forms.decides ns u.set) (forms.chain (sets_model sets) (forms.parent_at (sets_model sets) i)) (record { set = i; action = 0 })
+    ∙ ap (λ o. forms.deciding ns (forms.chain (sets_model sets) o) + cond (forms.decides ns i) 1 0) (model_parent sets i d l)
+    ∙ ap (λ n. forms.deciding ns (whole_path sets (get_or sets i d).parent) + cond (nat_le 2 n) 1 0)
+    (ap (λ ms. get_or ms i 0) (model_actions sets) ∙ get_or-map (λ (s : FormSet). s.actions) sets i d 0 l)
+  where
+    ns : List ℕ
+    ns = forms.actions_in (sets_model sets)
 
 -- there are no more of them than sets
-pub decisions_short : (sets : List FormSet) (o : Option (SetId × ℕ)) → deciding (actions_in sets) (whole_path sets o) ≤ length sets
+pub decisions_short : (sets : List forms.FormSet) (o : Option SetAction) → forms.deciding (forms.actions_in sets) (forms.chain sets o) ≤ length sets
 decisions_short sets o =
-    omega (arith, count_le_length (λ (u : Taken). decides (actions_in sets) u.set) (whole_path sets o), path_short sets (length sets) o)
+    omega (arith, count_le_length (λ (u : SetAction). forms.decides (forms.actions_in sets) u.set) (forms.chain sets o), chain_short sets o)
 
 -- what is told of sets by their numbers, at one of them
 pub counted_at : (f : ℕ → ℕ) (ns : List ℕ) (n i : ℕ) → ns ≡ map f (range_with_len 0 n) → i < n → get_or ns i 0 ≡ f i
@@ -55,19 +59,19 @@ no_set = record { id = record { 0 = 0 }; node = record { 0 = 0 }; parent = None;
 abbrev pub no_row : RowInfo
 no_row = record { id = record { 0 = 0 }; history = record { 0 = 0 }; worth = record { 0 = pos 0 }; last = [] }
 
--- a set that stands in the tree may stand in the form behind those before it
+-- a set of the tree may come in the form after those before it
 pub set_next : (sets : List SetInfo) (i : ℕ) (d : SetInfo) → AreSets (form_sets sets) → i < length sets → IsNextSet (take i (form_sets sets)) (form_set (get_or sets i d))
 set_next sets i d ok l =
     subst (IsNextSet (take i (form_sets sets))) (get_or-map form_set sets i d (form_set d) l) (ok i (form_set d) (subst (λ n. i < n) (sym (length-map sets form_set)) l))
 
 -- the deciding sets up to a set with two or more actions, or with fewer
 pub more_decisions : (sets : List SetInfo) (i : ℕ) (d : SetInfo) (before : ℕ) → AreSets (form_sets sets) → i < length sets
-    → before ≡ deciding (actions_in (form_sets sets)) (whole_path (form_sets sets) (get_or sets i d).parent)
-    → before + cond (nat_le 2 (get_or sets i d).actions) 1 0 ≡ decisions_at (form_sets sets) i
+    → before ≡ forms.deciding (forms.actions_in (sets_model (form_sets sets))) (whole_path (form_sets sets) (get_or sets i d).parent)
+    → before + cond (nat_le 2 (get_or sets i d).actions) 1 0 ≡ forms.decisions_to (sets_model (form_sets sets)) i
 more_decisions sets i d before ok l e =
     let here : get_or (form_sets sets) i (form_set d) ≡ form_set (get_or sets i d) = get_or-map form_set sets i d (form_set d) l in
     ap (λ n. n + cond (nat_le 2 (get_or sets i d).actions) 1 0) e
-    ∙ ap (λ (s : FormSet). deciding (actions_in (form_sets sets)) (whole_path (form_sets sets) s.parent) + cond (nat_le 2 s.actions) 1 0) (sym here)
+    ∙ ap (λ (s : FormSet). forms.deciding (forms.actions_in (sets_model (form_sets sets))) (whole_path (form_sets sets) s.parent) + cond (nat_le 2 s.actions) 1 0) (sym here)
     ∙ sym (decisions_next (form_sets sets) i (form_set d) ok (subst (λ n. i < n) (sym (length-map sets form_set)) l))
 
 -- the sets of a seat once they are given

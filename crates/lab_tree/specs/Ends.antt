@@ -1,16 +1,12 @@
 -- Terminal histories by their nodes.
-use Rattle.std.specs.Prelude.{ℕ, ◌≡◌, ◌+◌, ◌≤◌, List, [], ◌∷◌, map, flat_map, slice_range, nat_lt}
+use Rattle.std.specs.Prelude.{ℕ, ◌≡◌, ◌+◌, ◌≤◌, List, [], ◌∷◌, map, slice_range, nat_lt}
 use Rattle.std.specs.List.{range_with_len}
 use Rattle.lab_defs_game.specs.Keys.{count}
 use Rattle.lab_defs_text.specs.Games.{GameModel}
 use Rattle.lab_defs_game.specs.Histories.{History}
-use Rattle.lab_defs_game.specs.Nodes.{nodes, node_of, node_ends}
+use Rattle.lab_defs_game.specs.Nodes.{node_of}
 use Rattle.lab_unfold.specs.Values.{history_number}
 use Rattle.lab_tree.specs.declared.end.End.{End}
-
--- the terminal histories of a game by their nodes, and then as histories are numbered
-abbrev pub ends_by_nodes : GameModel → List History
-ends_by_nodes g = flat_map (node_ends g) (nodes g)
 
 -- a terminal history as the program has it
 abbrev pub end_in : GameModel → History → End

@@ -7,6 +7,7 @@ use Rattle.lab_defs_game.specs.Keys.{count}
 use Rattle.lab_defs_game.specs.Histories.{histories}
 use Rattle.lab_defs_game.specs.Sets as model
 use Rattle.lab_defs_game.specs.Nodes as nodes
+use Rattle.lab_defs_game.specs.Paths.{parent}
 use Rattle.lab_form.specs.declared.items.SetId.{SetId}
 use Rattle.lab_form.specs.declared.items.Span.{Span}
 use Rattle.lab_seen.specs.Firsts.{is_inner}
@@ -58,7 +59,7 @@ abbrev pub set_with : GameModel → ℕ → List model.Item → (number first_we
 set_with g seat s number first_weight = record {
   id = set_id number;
   node = node_id (nodes.node_number g (model.publics s));
-  parent = option_map taken_in (nodes.parent g seat s);
+  parent = option_map taken_in (parent g seat s);
   actions = model.set_actions g seat s;
   first_weight = first_weight;
 }

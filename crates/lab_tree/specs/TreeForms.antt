@@ -1,26 +1,19 @@
 -- The form of a tree.
-use Rattle.std.specs.Prelude.{ℕ, ◌≡◌, true, None, flat_map, ◌-◌, List, [], ◌∷◌, map, max, length, slice_index_or, Some, if◌then◌else◌, ◌==◌}
+use Rattle.std.specs.Prelude.{ℕ, ◌≡◌, flat_map, ◌-◌, List, [], ◌∷◌, map, max, length, slice_index_or, Some, if◌then◌else◌, ◌==◌}
 use Rattle.lab_defs_text.specs.Games.{GameModel}
-use Rattle.lab_defs_text.specs.Texts.{game_ok}
-use Rattle.lab_defs_game.specs.Forms.{deciding, game_actions, row_along}
-use Rattle.lab_defs_game.specs.Unfolding.{unfold_fault}
-use Rattle.lab_defs_game.specs.Recall.{recall_fault}
+use Rattle.lab_defs_game.specs.Accepted.{IsAccepted}
+use Rattle.lab_defs_game.specs.Forms.{decisions_to, form_of}
 use Rattle.lab_form.specs.declared.items.SetId.{SetId}
 use Rattle.lab_form.specs.declared.items.FormSet.{FormSet}
 use Rattle.lab_form.specs.declared.items.FormRow.{FormRow}
-use Rattle.lab_form.specs.Forms.{FormValue, form_model, actions_in, whole_path, AreSets, AreRows}
+use Rattle.lab_form.specs.Forms.{FormValue, form_model, sets_model, AreSets, AreRows}
 use Rattle.lab_tree.specs.declared.info.SetInfo.{SetInfo}
 use Rattle.lab_tree.specs.declared.info.RowInfo.{RowInfo}
 use Rattle.lab_tree.specs.Trees.{TreeValue, set_id, tree_of}
-use Rattle.lab_tree.specs.Ends.{ends_by_nodes}
 
 -- a set of a tree as one of a form
 abbrev pub form_set : SetInfo → FormSet
 form_set s = record { parent = s.parent; actions = s.actions; first_weight = s.first_weight }
-
--- how many deciding sets the way up to a set has, the set included
-abbrev pub decisions_at : List FormSet → ℕ → ℕ
-decisions_at sets i = deciding (actions_in sets) (whole_path sets (Some (set_id i, 0)))
 
 -- the last set of a seat on a row, with the action there
 abbrev pub last_set : RowInfo → ℕ → SetId × ℕ
@@ -31,7 +24,7 @@ abbrev pub form_row : (sets1 sets2 : List FormSet) → (most1 most2 : ℕ) → R
 form_row sets1 sets2 most1 most2 r = record {
   worth = r.worth;
   last = Some (last_set r 1) ∷ Some (last_set r 2) ∷ [];
-  pads = (most1 - decisions_at sets1 (last_set r 1).0.0) ∷ (most2 - decisions_at sets2 (last_set r 2).0.0) ∷ [];
+  pads = (most1 - decisions_to (sets_model sets1) (last_set r 1).0.0) ∷ (most2 - decisions_to (sets_model sets2) (last_set r 2).0.0) ∷ [];
 }
 
 -- the sets of a tree as those of a form
@@ -78,17 +71,10 @@ tree_form t = form_in t.one.sets t.two.sets t.unfolded.scale.most1 t.unfolded.sc
 
 -- ---- laws
 
--- a game of which the tree is told: with whole worlds, unfolded, and with no fault of recall
-pub record IsPlayable (g : GameModel) : Type 0 where
-  pub whole : game_ok g ≡ true
-  pub accepted : unfold_fault g ≡ None
-  pub recall : recall_fault g ≡ None
-
--- the sets and rows of such a game's tree are those of a form
+-- the sets and rows of an accepted game's tree are those of a form
 abbrev pub FormPartsLaw : Type 0
-FormPartsLaw = (g : GameModel) → IsPlayable g → AreFormParts (tree_of g).one.sets (tree_of g).two.sets (all_rows (tree_of g))
+FormPartsLaw = (g : GameModel) → IsAccepted g → AreFormParts (tree_of g).one.sets (tree_of g).two.sets (all_rows (tree_of g))
 
--- and the form is the game's, with the rows by their nodes
+-- and the form is the game's
 abbrev pub FormLaw : Type 0
-FormLaw = (g : GameModel) → IsPlayable g
-    → form_model (tree_form (tree_of g)) ≡ record { actions1 = game_actions g 1; actions2 = game_actions g 2; rows = map (row_along g) (ends_by_nodes g) }
+FormLaw = (g : GameModel) → IsAccepted g → form_model (tree_form (tree_of g)) ≡ form_of g

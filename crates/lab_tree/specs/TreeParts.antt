@@ -71,7 +71,7 @@ pub record AreParts (v : PartsValue) : Type 0 where
   pub few : length (all_rows (tree_with v)) < 2 ^ 32
 
 -- what is told of a seat by its sets
-pub record IsSeat (v : SeatValue) (s : SetsValue) : Type 0 where
+pub record IsSeatValue (v : SeatValue) (s : SetsValue) : Type 0 where
   pub set_of : s.set_of ≡ v.set_of
   pub node_sets : s.node_sets ≡ v.node_sets
   pub spans : s.spans ≡ v.spans

@@ -9,7 +9,8 @@ use Rattle.lab_defs_game.specs.Keys.{number_of, list_cmp}
 use Rattle.lab_defs_game.specs.Laws.{history_cmp}
 use Rattle.lab_defs_game.specs.Histories.{History, histories, terminal_histories, place_of, payoff}
 use Rattle.lab_defs_game.specs.Sets as model
-use Rattle.lab_defs_game.specs.Forms.{Taken, game_actions}
+use Rattle.lab_defs_game.specs.Forms.{game_actions}
+use Rattle.lab_defs_game.specs.Paths.{SetAction, parent}
 use Rattle.lab_defs_game.specs.Chance.{chance}
 use Rattle.lab_defs_game.specs.Nodes as nodes
 use Rattle.lab_defs_value.specs.Tables.{first_weight}
@@ -52,14 +53,14 @@ abbrev pub node_id : ℕ → NodeId
 node_id n = record { 0 = n }
 
 -- a set and the action there, as the program has them
-abbrev pub taken_in : Taken → SetId × ℕ
+abbrev pub taken_in : SetAction → SetId × ℕ
 taken_in t = (set_id t.set, t.action)
 
 abbrev pub set_in : GameModel → ℕ → List model.Item → SetInfo
 set_in g seat s = record {
   id = set_id (model.set_number g seat s);
   node = node_id (nodes.node_number g (model.publics s));
-  parent = option_map taken_in (nodes.parent g seat s);
+  parent = option_map taken_in (parent g seat s);
   actions = model.set_actions g seat s;
   first_weight = first_weight (game_actions g seat) (model.set_number g seat s);
 }
@@ -87,7 +88,7 @@ row_cmp g = then_cmp (on (model.public_list g) list_cmp) history_cmp
 
 -- the last set of a seat on a terminal history, with the action there
 abbrev pub last_in : GameModel → ℕ → History → SetId × ℕ
-last_in g seat h = taken_in (elim (nodes.parent g seat (model.seen g seat h)) [ Some t ↦ t | None ↦ record { set = 0; action = 0 } ])
+last_in g seat h = taken_in (elim (parent g seat (model.seen g seat h)) [ Some t ↦ t | None ↦ record { set = 0; action = 0 } ])
 
 abbrev pub row_in : GameModel → History → RowInfo
 row_in g h = record {

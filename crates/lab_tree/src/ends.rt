@@ -19,11 +19,11 @@ ghost use Rattle.std.specs.List.Sorted.{IsNonDecreasingBy};
 ghost use Rattle.lab_defs_text.specs.Games.{an_end};
 ghost use Rattle.lab_defs_text.specs.Texts.{place_at, is_world};
 ghost use Rattle.lab_defs_game.specs.Histories.{histories, is_terminal, terminal_histories};
-ghost use Rattle.lab_defs_game.specs.Nodes.{node_of};
+ghost use Rattle.lab_defs_game.specs.Nodes.{node_of, ends_by_nodes};
 ghost use Rattle.lab_world.specs.Games.{game_model};
 ghost use Rattle.lab_unfold.specs.Values.{unfolded};
 ghost use Rattle.lab_tree.specs.Trees.{node_id};
-ghost use Rattle.lab_tree.specs.Ends.{ends_by_nodes, end_in};
+ghost use Rattle.lab_tree.specs.Ends.{end_in};
 
 use super::end::End;
 use crate::NodeId;

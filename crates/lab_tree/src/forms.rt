@@ -20,10 +20,10 @@ ghost use Rattle.std.specs.Prelude.{
   IfOk,
 };
 ghost use Rattle.std.specs.List.{range_with_len};
-ghost use Rattle.lab_defs_game.specs.Forms.{deciding};
+ghost use Rattle.lab_defs_game.specs.Forms.{actions_in, deciding, decisions_to};
 ghost use Rattle.lab_form.specs.Forms.{
   sets_of,
-  actions_in,
+  sets_model,
   whole_path,
   IsStepBelow,
   IsNextRow,
@@ -37,7 +37,6 @@ ghost use Rattle.lab_tree.specs.TreeForms.{
   form_in,
   with_sets,
   with_rows,
-  decisions_at,
   last_set,
   AreFormParts,
 };
@@ -88,7 +87,7 @@ fn decision_counts(alloc: Global, sets: &[SetInfo]) -> Result<Vec<u32>, AllocErr
     requires sets { AreSets (form_sets sets.now) }
     requires few { length sets.now < 2 ^ 32 }
     ensures { IfOk result (λ c. c.items
-        ≡ map (decisions_at (form_sets sets.now)) (range_with_len 0 (length sets.now))) }
+        ≡ map (decisions_to (sets_model (form_sets sets.now))) (range_with_len 0 (length sets.now))) }
 {
     let mut counts = Vec::new(alloc);
     for _ in 0..sets.len() {
@@ -101,9 +100,9 @@ fn decision_counts(alloc: Global, sets: &[SetInfo]) -> Result<Vec<u32>, AllocErr
 fn decision_count(sets: &[SetInfo], counts: &[u32]) -> u32
     requires sets { AreSets (form_sets sets.now) }
     requires few { length sets.now < 2 ^ 32 }
-    requires counts { counts.now ≡ map (decisions_at (form_sets sets.now)) (range_with_len 0 (length counts.now)) }
+    requires counts { counts.now ≡ map (decisions_to (sets_model (form_sets sets.now))) (range_with_len 0 (length counts.now)) }
     requires below { length counts.now < length sets.now }
-    ensures { result ≡ decisions_at (form_sets sets.now) (length counts.now) }
+    ensures { result ≡ decisions_to (sets_model (form_sets sets.now)) (length counts.now) }
 {
     let set = sets[counts.len()];
     let before = decisions_before(sets, counts, set.parent);
@@ -113,11 +112,11 @@ fn decision_count(sets: &[SetInfo], counts: &[u32]) -> u32
 // How many deciding sets the way up to a step has.
 fn decisions_before(sets: &[SetInfo], counts: &[u32], step: Option<(SetId, u32)>) -> u32
     requires sets { AreSets (form_sets sets.now) }
-    requires counts { counts.now ≡ map (decisions_at (form_sets sets.now)) (range_with_len 0 (length counts.now)) }
+    requires counts { counts.now ≡ map (decisions_to (sets_model (form_sets sets.now))) (range_with_len 0 (length counts.now)) }
     requires below { IsStepBelow (take (length counts.now) (form_sets sets.now)) step }
     requires within { length counts.now ≤ length sets.now }
     ensures { result
-        ≡ deciding (actions_in (form_sets sets.now)) (whole_path (form_sets sets.now) step) }
+        ≡ deciding (actions_in (sets_model (form_sets sets.now))) (whole_path (form_sets sets.now) step) }
 {
     let Some(last) = step else {
         return 0;
@@ -150,8 +149,8 @@ fn add_rows(form: &mut Form, rows: &[RowInfo], counts1: &[u32], counts2: &[u32],
     requires none { form.old.rows ≡ [] }
     requires room { length rows.now ≤ form.old.row_room }
     requires there { AreRows form.old.sets1 form.old.sets2 (map (form_row form.old.sets1 form.old.sets2 0 0) rows.now) }
-    requires counts1 { counts1.now ≡ map (decisions_at form.old.sets1) (range_with_len 0 (length form.old.sets1)) }
-    requires counts2 { counts2.now ≡ map (decisions_at form.old.sets2) (range_with_len 0 (length form.old.sets2)) }
+    requires counts1 { counts1.now ≡ map (decisions_to (sets_model form.old.sets1)) (range_with_len 0 (length form.old.sets1)) }
+    requires counts2 { counts2.now ≡ map (decisions_to (sets_model form.old.sets2)) (range_with_len 0 (length form.old.sets2)) }
     ensures { form.new
         ≡ with_rows form.old (map (form_row form.old.sets1 form.old.sets2 (slice_index most 0) (slice_index most 1)) rows.now) }
 {
@@ -164,8 +163,8 @@ fn add_rows(form: &mut Form, rows: &[RowInfo], counts1: &[u32], counts2: &[u32],
 // A row of a form from that of a tree.
 fn next_row(form: &Form, row: &RowInfo, counts1: &[u32], counts2: &[u32], most: [u32; 2]) -> FormRow
     requires there { IsNextRow form.now.sets1 form.now.sets2 (form_row form.now.sets1 form.now.sets2 0 0 row.now) }
-    requires counts1 { counts1.now ≡ map (decisions_at form.now.sets1) (range_with_len 0 (length form.now.sets1)) }
-    requires counts2 { counts2.now ≡ map (decisions_at form.now.sets2) (range_with_len 0 (length form.now.sets2)) }
+    requires counts1 { counts1.now ≡ map (decisions_to (sets_model form.now.sets1)) (range_with_len 0 (length form.now.sets1)) }
+    requires counts2 { counts2.now ≡ map (decisions_to (sets_model form.now.sets2)) (range_with_len 0 (length form.now.sets2)) }
     ensures { result
         ≡ form_row form.now.sets1 form.now.sets2 (slice_index most 0) (slice_index most 1) row.now }
 {

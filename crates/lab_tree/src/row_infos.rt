@@ -27,7 +27,8 @@ ghost use Rattle.lab_defs_game.specs.Unfolding.{unfold_fault};
 ghost use Rattle.lab_world.specs.Games.{game_model};
 ghost use Rattle.lab_unfold.specs.Values.{unfolded};
 ghost use Rattle.lab_tree.specs.Trees.{set_id, set_at, row_cmp, last_in, row_in};
-ghost use Rattle.lab_tree.specs.Ends.{ends_by_nodes, end_in};
+ghost use Rattle.lab_tree.specs.Ends.{end_in};
+ghost use Rattle.lab_defs_game.specs.Nodes.{ends_by_nodes};
 
 use super::end::End;
 use super::ends::end_payoff;

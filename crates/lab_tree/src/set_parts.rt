@@ -17,6 +17,7 @@ ghost use Rattle.std.specs.Option.{option_map};
 ghost use Rattle.lab_defs_game.specs.Histories as model;
 ghost use Rattle.lab_defs_game.specs.Laws.{AlikeNames};
 ghost use Rattle.lab_defs_game.specs.Nodes as nodes;
+ghost use Rattle.lab_defs_game.specs.Paths.{parent};
 ghost use Rattle.lab_defs_game.specs.Sets.{seen, sets};
 ghost use Rattle.lab_defs_game.specs.Unfolding.{unfold_fault};
 ghost use Rattle.lab_defs_value.specs.Tables.{weights_of};
@@ -171,7 +172,7 @@ fn parent_set(
     requires seat { (seat ≡ 1) ⊎ (seat ≡ 2) }
     requires there { id.0 < length (model.histories (game_model game.now)) }
     requires of { of.now ≡ map (set_at (game_model game.now) seat) (model.histories (game_model game.now)) }
-    ensures { result ≡ option_map taken_in (nodes.parent (game_model game.now) seat
+    ensures { result ≡ option_map taken_in (parent (game_model game.now) seat
         (seen (game_model game.now) seat (history_at (game_model game.now) id.0))) }
 {
     let (before, item) = step_behind(game, histories, seat, id)?;

@@ -8,7 +8,7 @@ ghost use Rattle.lab_world.specs.Games.{game_model};
 ghost use Rattle.lab_unfold.specs.Values.{unfolded};
 ghost use Rattle.lab_seen.specs.SetFirsts.{AreSetFirsts};
 ghost use Rattle.lab_tree.specs.TreeForms.{tree_form};
-ghost use Rattle.lab_tree.specs.TreeParts.{parts_in, AreSeatParts, IsSeat};
+ghost use Rattle.lab_tree.specs.TreeParts.{parts_in, AreSeatParts, IsSeatValue};
 ghost use Rattle.lab_tree.specs.Trees.{node_id, seat_of, tree_of};
 
 use super::forms::form_of;
@@ -268,7 +268,7 @@ impl Tree {
     // The sets of a seat.
     fn seat(&self, seat: u32) -> &SeatSets
         requires { (seat ≡ 1) ⊎ (seat ≡ 2) }
-        ensures value { IsSeat (seat_of self.now seat) result.now }
+        ensures value { IsSeatValue (seat_of self.now seat) result.now }
         ensures parts { AreSeatParts (length self.now.unfolded.items) (length self.now.nodes) result.now }
     {
         if seat == 1 { &self.one } else { &self.two }

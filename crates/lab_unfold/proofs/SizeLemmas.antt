@@ -3,8 +3,8 @@ use Rattle.std.proofs.Common.{◌≡◌, ℕ, ◌+◌, ◌*◌, ◌/◌, ◌^◌
 use Rattle.std.specs.Prelude.{max, nat_le, IfSome}
 use Rattle.std.specs.Cmp.{both_ways}
 use Rattle.std.proofs.Math.Nat.{le-div_iff_mul-le, one-le-pow}
-use Rattle.std.proofs.lemmas.Bool.{leb-true, le-leb, lt-ltb}
-use Rattle.std.proofs.lemmas.Nat.{mul-le}
+use Rattle.std.proofs.lemmas.Bool.{leb-true, le-leb, lt-ltb, le-ltb}
+use Rattle.std.proofs.lemmas.Nat.{mul-le, pow-add}
 use Rattle.lab_defs_text.specs.Games.{GameModel}
 use Rattle.lab_defs_game.specs.Chance.{scale}
 use Rattle.lab_defs_game.specs.Sets.{most_decisions}
@@ -23,12 +23,33 @@ pub told_fine : (o : Option ℕ) (k : ℕ) → o ≡ told_scale k → 0 < k → 
 told_fine None k e some = tt
 told_fine (Some n) k e some = let t = told_is k n (sym e) in (subst (λ m. 0 < m) (sym t.0) some, subst (λ m. m ≤ 2 ^ 80) (sym t.0) t.1)
 
+-- the size in one power of the grid, which both seats have
+pub size_is : (g : GameModel) → size g ≡ max 1 (top_payoff g) * scale g * g.grid ^ (most_decisions g 1 + most_decisions g 2)
+size_is g = sym (ap (λ p. max 1 (top_payoff g) * scale g * p) (pow-add g.grid (most_decisions g 1) (most_decisions g 2)))
+
 -- the size is at least the scale
 pub scale_le : (g : GameModel) → 0 < g.grid → scale g ≤ size g
 scale_le g some =
     let one : scale g ≤ max 1 (top_payoff g) * scale g = omega (arith, mul-le 1 (scale g) (max 1 (top_payoff g)) (scale g) (omega arith) (omega arith)) in
     let pow : 1 ≤ g.grid ^ (most_decisions g 1 + most_decisions g 2) = one-le-pow (most_decisions g 1 + most_decisions g 2) g.grid some in
-    omega (arith, one, mul-le (max 1 (top_payoff g) * scale g) 1 (max 1 (top_payoff g) * scale g) (g.grid ^ (most_decisions g 1 + most_decisions g 2)) (omega arith) pow)
+    omega (arith, one, mul-le (max 1 (top_payoff g) * scale g) 1 (max 1 (top_payoff g) * scale g) (g.grid ^ (most_decisions g 1 + most_decisions g 2)) (omega arith) pow, size_is g)
+
+-- the size from what it is found by
+pub size_by : (g : GameModel) (top k most1 most2 : ℕ) → top ≡ top_payoff g → Some k ≡ told_scale (scale g) → most1 ≡ most_decisions g 1 → most2 ≡ most_decisions g 2
+    → size g ≡ max 1 top * k * g.grid ^ (most1 + most2)
+size_by g top k most1 most2 t e m n =
+    size_is g
+    ∙ ap (λ x. max 1 x * scale g * g.grid ^ (most_decisions g 1 + most_decisions g 2)) (sym t)
+    ∙ ap (λ x. max 1 top * x * g.grid ^ (most_decisions g 1 + most_decisions g 2)) (sym (told_is (scale g) k (sym e)).0)
+    ∙ ap (λ x. max 1 top * k * g.grid ^ (x + most_decisions g 2)) (sym m)
+    ∙ ap (λ x. max 1 top * k * g.grid ^ (most1 + x)) (sym n)
+
+-- where the size that is found is within its limit, there is no fault
+pub size_within : (g : GameModel) (top k most1 most2 : ℕ) → top ≡ top_payoff g → Some k ≡ told_scale (scale g) → most1 ≡ most_decisions g 1 → most2 ≡ most_decisions g 2
+    → max 1 top * k * g.grid ^ (most1 + most2) ≤ 2 ^ 64 → size_fault g ≡ None
+size_within g top k most1 most2 t e m n within =
+    ap (λ b. cond b (Some (size_passed (top_payoff g) (told_scale (scale g)) (most_decisions g 1) (most_decisions g 2))) None)
+    (le-ltb (2 ^ 64) (size g) (subst (λ x. x ≤ 2 ^ 64) (sym (size_by g top k most1 most2 t e m n)) within))
 
 -- where the size that is told, or the scale, is above its limit, so is the size
 pub size_past : (g : GameModel) (top : ℕ) (told : Option ℕ) (most1 most2 : ℕ) → 0 < g.grid → top ≡ top_payoff g → told ≡ told_scale (scale g)
@@ -42,9 +63,4 @@ size_past g top told most1 most2 some t k m n past =
   where
     above : (o : Option ℕ) → o ≡ told_scale (scale g) → IfSome o (λ k. 2 ^ 64 < max 1 top * k * g.grid ^ (most1 + most2)) → 2 ^ 64 < size g
     above None e p = omega (arith, told_past (scale g) (sym e), scale_le g some)
-    above (Some k) e p =
-        let s = told_is (scale g) k (sym e) in
-        subst (λ x. 2 ^ 64 < max 1 (top_payoff g) * scale g * g.grid ^ (most_decisions g 1 + x)) n
-        (subst (λ x. 2 ^ 64 < max 1 (top_payoff g) * scale g * g.grid ^ (x + most2)) m
-        (subst (λ x. 2 ^ 64 < max 1 x * scale g * g.grid ^ (most1 + most2)) t
-        (subst (λ x. 2 ^ 64 < max 1 top * x * g.grid ^ (most1 + most2)) s.0 p)))
+    above (Some k) e p = subst (λ x. 2 ^ 64 < x) (sym (size_by g top k most1 most2 t e m n)) p

@@ -18,7 +18,7 @@ use Rattle.lab_world.specs.declared.place.Place.TheVariants as place
 use Rattle.lab_world.specs.declared.place.World.{World}
 use Rattle.lab_world.specs.declared.place.Row.{Row}
 use Rattle.lab_world.specs.Models.{outcome_model, row_model, world_model, place_model, action_list}
-use Rattle.lab_world.specs.Wholes.{place_fits, action_names}
+use Rattle.lab_world.specs.Wholes.{place_fits, all_action_names}
 use Rattle.lab_world.specs.Games.{game_model}
 use Rattle.lab_unfold.specs.Filled.{is_row, IsFilled}
 
@@ -26,7 +26,7 @@ use Rattle.lab_unfold.specs.Filled.{is_row, IsFilled}
 pub whole_parts : (g : Game) → (game_ok (game_model g) ≡ true) × (list_all (place_fits (length g.actions)) g.places ≡ true)
 whole_parts g =
     let fits = list_all (place_fits (length g.actions)) g.places in
-    let names = pointwise bytes_eq g.actions (action_names [] (game_model g).places) in
+    let names = pointwise bytes_eq g.actions (all_action_names [] (game_model g).places) in
     let whole = and_parts (game_ok (game_model g)) (fits && names) g.whole in
     (whole.0, (and_parts fits names whole.1).0)
 

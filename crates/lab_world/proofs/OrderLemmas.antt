@@ -8,7 +8,7 @@ use Rattle.std.proofs.lemmas.Iterator.Adapters.{position_from-zero}
 use Rattle.lab_defs_text.specs.Faults.{TextFault, missing_row}
 use Rattle.lab_defs_text.specs.Steps.{◌>>=◌, each}
 use Rattle.lab_defs_text.specs.Games as model
-use Rattle.lab_defs_text.specs.Assembly.{PlacedRow, or_fault, row_of, row_at}
+use Rattle.lab_defs_text.specs.Assembly.{PlacedRow, or_fault, row_numbered, row_at}
 use Rattle.lab_world.specs.declared.place.Row.{Row}
 use Rattle.lab_world.specs.Models.{row_model}
 use Rattle.lab_world.specs.Stages.{numbered_rows, total_fits}
@@ -21,8 +21,8 @@ use Rattle.lab_world.proofs.RowLemmas.{eqb_turned}
 record RowStands (k i j : ℕ) (ks : List ℕ) (rs : List Row) : Type 0 where
   pub place : ℕ
   pub counted : j ≡ i + place
-  pub taken : option_map row_model (slice_get rs place) ≡ row_of k (numbered_rows ks rs)
-  pub others : (n : ℕ) (other : Row) → n ≢ k → row_of n (numbered_rows ks (slice_set rs place other)) ≡ row_of n (numbered_rows ks rs)
+  pub taken : option_map row_model (slice_get rs place) ≡ row_numbered k (numbered_rows ks rs)
+  pub others : (n : ℕ) (other : Row) → n ≢ k → row_numbered n (numbered_rows ks (slice_set rs place other)) ≡ row_numbered n (numbered_rows ks rs)
 
 -- one row before others, which has the number
 row_here : (k i j x : ℕ) (ks : List ℕ) (row : Row) (rs : List Row) → i ≡ j → (x == k) ≡ true → RowStands k i j (x ∷ ks) (row ∷ rs)
@@ -61,7 +61,7 @@ row_from k i j (x ∷ ks) (row ∷ rs) e = elim (cases_Bool (k == x)) [
 ]
 
 -- a number that is not found has no row
-none_from : (k i : ℕ) (ks : List ℕ) (rs : List Row) → position_from (nat_eq k) i ks ≡ None → row_of k (numbered_rows ks rs) ≡ None
+none_from : (k i : ℕ) (ks : List ℕ) (rs : List Row) → position_from (nat_eq k) i ks ≡ None → row_numbered k (numbered_rows ks rs) ≡ None
 none_from k i [] rs e = refl
 none_from k i (x ∷ ks) [] e = refl
 none_from k i (x ∷ ks) (row ∷ rs) e = elim (cases_Bool (k == x)) [
@@ -71,8 +71,8 @@ none_from k i (x ∷ ks) (row ∷ rs) e = elim (cases_Bool (k == x)) [
 
 -- what is known where number k stands at place j
 pub record RowTaken (k j : ℕ) (ks : List ℕ) (rs : List Row) : Type 0 where
-  pub taken : option_map row_model (slice_get rs j) ≡ row_of k (numbered_rows ks rs)
-  pub others : (n : ℕ) (other : Row) → n ≢ k → row_of n (numbered_rows ks (slice_set rs j other)) ≡ row_of n (numbered_rows ks rs)
+  pub taken : option_map row_model (slice_get rs j) ≡ row_numbered k (numbered_rows ks rs)
+  pub others : (n : ℕ) (other : Row) → n ≢ k → row_numbered n (numbered_rows ks (slice_set rs j other)) ≡ row_numbered n (numbered_rows ks rs)
 
 -- the row beside a number is that of the number
 pub row_taken : (k j : ℕ) (ks : List ℕ) (rs : List Row) → position (nat_eq k) ks ≡ Some j → RowTaken k j ks rs
@@ -82,7 +82,7 @@ row_taken k j ks rs e =
     subst (λ (p : ℕ). RowTaken k p ks rs) same (record { taken = r.taken; others = r.others })
 
 -- a number that does not stand there has no row
-pub row_none : (k : ℕ) (ks : List ℕ) (rs : List Row) → position (nat_eq k) ks ≡ None → row_of k (numbered_rows ks rs) ≡ None
+pub row_none : (k : ℕ) (ks : List ℕ) (rs : List Row) → position (nat_eq k) ks ≡ None → row_numbered k (numbered_rows ks rs) ≡ None
 row_none k ks rs e = none_from k 0 ks rs (sym (position_from-zero (nat_eq k) ks) ∙ e)
 
 -- ---- one row after another
@@ -96,26 +96,26 @@ next_number line m rows found i n all lt e =
 
 -- a row that is there is the next one
 pub row_next : (line m : ℕ) (rows : List PlacedRow) (found after : List (List model.Outcome)) (i n : ℕ) (os : List model.Outcome) (all : Result (List (List model.Outcome)) TextFault) → i < n
-    → row_of i rows ≡ Some os → after ≡ found ++ os ∷ [] → each_on (row_at line m rows) found (range_with_len i (n - i)) ≡ all → each_on (row_at line m rows) after (range_with_len (i + 1) (n - (i + 1))) ≡ all
+    → row_numbered i rows ≡ Some os → after ≡ found ++ os ∷ [] → each_on (row_at line m rows) found (range_with_len i (n - i)) ≡ all → each_on (row_at line m rows) after (range_with_len (i + 1) (n - (i + 1))) ≡ all
 row_next line m rows found after i n os all lt there made e =
     each_next (row_at line m rows) found after i (range_with_len (i + 1) (n - (i + 1))) os all (ap (or_fault (missing_row line (i / m) (i % m))) there) made (next_number line m rows found i n all lt e)
 
 -- one that is missing is a fault
 pub row_missing : (line m : ℕ) (rows : List PlacedRow) (found : List (List model.Outcome)) (i n : ℕ) (all : Result (List (List model.Outcome)) TextFault) → i < n
-    → row_of i rows ≡ None → each_on (row_at line m rows) found (range_with_len i (n - i)) ≡ all → all ≡ Err (missing_row line (i / m) (i % m))
+    → row_numbered i rows ≡ None → each_on (row_at line m rows) found (range_with_len i (n - i)) ≡ all → all ≡ Err (missing_row line (i / m) (i % m))
 row_missing line m rows found i n all lt none e =
     sym (next_number line m rows found i n all lt e) ∙ ap (λ o. or_fault (missing_row line (i / m) (i % m)) o >>= λ os. each_on (row_at line m rows) (found ++ os ∷ []) (range_with_len (i + 1) (n - (i + 1)))) none
 
 -- ---- rows that stand in order
 
 -- rows that stand in order from number a on, among rows that are those from there on
-in_order_from : (line m a : ℕ) (ps : List PlacedRow) (rs : List Row) → ((k : ℕ) → a ≤ k → row_of k ps ≡ row_of k (numbered_rows (range_with_len a (length rs)) rs))
+in_order_from : (line m a : ℕ) (ps : List PlacedRow) (rs : List Row) → ((k : ℕ) → a ≤ k → row_numbered k ps ≡ row_numbered k (numbered_rows (range_with_len a (length rs)) rs))
     → each (row_at line m ps) (range_with_len a (length rs)) ≡ Ok (map row_model rs)
 in_order_from line m a ps [] h = refl
 in_order_from line m a ps (r ∷ rs) h =
     let same : (a == a) ≡ true = eq-eqb a a refl in
-    let here : row_of a ps ≡ Some (row_model r) = h a (omega arith) ∙ rw same refl in
-    let later : (k : ℕ) → a + 1 ≤ k → row_of k ps ≡ row_of k (numbered_rows (range_with_len (a + 1) (length rs)) rs) =
+    let here : row_numbered a ps ≡ Some (row_model r) = h a (omega arith) ∙ rw same refl in
+    let later : (k : ℕ) → a + 1 ≤ k → row_numbered k ps ≡ row_numbered k (numbered_rows (range_with_len (a + 1) (length rs)) rs) =
     λ k le. (let other : (a == k) ≡ false = ne_eqb a k (λ e. absurd (omega (arith, le, e))) in h k (omega (arith, le)) ∙ rw other refl) in
     ap (λ o. or_fault (missing_row line (a / m) (a % m)) o >>= λ y. each (row_at line m ps) (range_with_len (a + 1) (length rs)) >>= λ ys. Ok (y ∷ ys)) here
     ∙ ap (λ q. q >>= λ ys. Ok (row_model r ∷ ys)) (in_order_from line m (a + 1) ps rs later)

@@ -30,7 +30,7 @@ use Rattle.lab_world.specs.declared.place.Recall.{Recall}
 use Rattle.lab_world.specs.declared.place.WorldId.{WorldId}
 use Rattle.lab_world.specs.Drafts.{part_place_by, part_place_of, part_places_by, part_places_of, draft_of, named_draft_of}
 use Rattle.lab_world.specs.Models.{place_model, parts_model}
-use Rattle.lab_world.specs.Wholes.{action_names, place_fits, is_whole}
+use Rattle.lab_world.specs.Wholes.{all_action_names, place_fits, is_whole_game}
 use Rattle.lab_world.specs.Stages.{Rooted, rooted}
 use Rattle.lab_world.proofs.EachLemmas.{fault_first}
 
@@ -173,10 +173,10 @@ names_same (x ∷ xs) = and_from (bytes_eq x x) (pointwise bytes_eq xs xs) (byte
 
 -- a game that parts in order are assembled to is whole
 pub whole_is : (d : draft.Draft) (grid horizon : ℕ) (recall : Recall) (tokens names actions : List Bytes) (places : List Place) (root : WorldId) → parts_ok d ≡ true
-    → assembled d ≡ Ok (parts_model grid horizon recall tokens names actions places root) → list_all (place_fits (length actions)) places ≡ true → actions ≡ action_names [] (map (place_model actions) places)
-    → is_whole grid horizon recall tokens names actions places root ≡ true
+    → assembled d ≡ Ok (parts_model grid horizon recall tokens names actions places root) → list_all (place_fits (length actions)) places ≡ true → actions ≡ all_action_names [] (map (place_model actions) places)
+    → is_whole_game grid horizon recall tokens names actions places root ≡ true
 whole_is d grid horizon recall tokens names actions places root ok made fits listed =
     let g = parts_model grid horizon recall tokens names actions places root in
     let same = ap (pointwise bytes_eq actions) (sym listed) ∙ names_same actions in
-    and_from (game_ok g) (list_all (place_fits (length actions)) places && pointwise bytes_eq actions (action_names [] g.places)) (game_is d g (parts_are_draft d ok) made).fine
-    (and_from (list_all (place_fits (length actions)) places) (pointwise bytes_eq actions (action_names [] g.places)) fits same)
+    and_from (game_ok g) (list_all (place_fits (length actions)) places && pointwise bytes_eq actions (all_action_names [] g.places)) (game_is d g (parts_are_draft d ok) made).fine
+    (and_from (list_all (place_fits (length actions)) places) (pointwise bytes_eq actions (all_action_names [] g.places)) fits same)

@@ -12,14 +12,14 @@ use Rattle.lab_world.specs.declared.place.World.{World}
 use Rattle.lab_world.specs.declared.place.Place.{Place}
 use Rattle.lab_world.specs.declared.place.Place.TheVariants as place
 use Rattle.lab_world.specs.Models.{row_model, action_list, world_model, place_model}
-use Rattle.lab_world.specs.Wholes.{with_new, action_names, place_fits}
+use Rattle.lab_world.specs.Wholes.{with_new, all_action_names, place_fits}
 use Rattle.lab_world.specs.declared.stages.NumberedPlaces.{NumberedPlaces}
 use Rattle.lab_world.specs.Stages.{total_fits}
 use Rattle.lab_world.specs.Made.{AreNumbered}
 use Rattle.lab_world.proofs.ActionNameLemmas.{with_new_rest, ids_below, ids_below_more, ids_below_new, action_list_append, action_list_new}
 
 -- names of actions come at the end
-pub action_names_rest : (names : List Bytes) (ps : List model.Place) → (rest : List Bytes) × (action_names names ps ≡ names ++ rest)
+pub action_names_rest : (names : List Bytes) (ps : List model.Place) → (rest : List Bytes) × (all_action_names names ps ≡ names ++ rest)
 action_names_rest names [] = ([], sym (append-nil names))
 action_names_rest names (model.a_world w ∷ ps) =
     let a = with_new_rest names w.one in
@@ -77,7 +77,7 @@ world_named middle actions w m table one one_below two two_below rows totals =
     }
 
 -- the names of the actions of places and of one more
-action_names_push : (names : List Bytes) (ms : List model.Place) (m : model.Place) → action_names (action_names names ms) (m ∷ []) ≡ action_names names (ms ++ m ∷ [])
+action_names_push : (names : List Bytes) (ms : List model.Place) (m : model.Place) → all_action_names (all_action_names names ms) (m ∷ []) ≡ all_action_names names (ms ++ m ∷ [])
 action_names_push names [] m = refl
 action_names_push names (model.a_world w ∷ ms) m = action_names_push (with_new (with_new names w.one) w.two) ms m
 action_names_push names (model.an_end z ∷ ms) m = action_names_push names ms m
@@ -91,7 +91,7 @@ none_numbered n table items = record {
 }
 
 -- one place more, whose names of actions may be new
-pub place_more : (before after : NumberedPlaces) (p : Place) (m : model.Place) (ms : List model.Place) → after.actions ≡ action_names before.actions (m ∷ []) → after.places.items ≡ before.places.items ++ p ∷ []
+pub place_more : (before after : NumberedPlaces) (p : Place) (m : model.Place) (ms : List model.Place) → after.actions ≡ all_action_names before.actions (m ∷ []) → after.places.items ≡ before.places.items ++ p ∷ []
     → place_model after.actions p ≡ m → place_fits (length after.actions) p ≡ true → AreNumbered before ms → AreNumbered after (ms ++ m ∷ [])
 place_more before after p m ms table items same fit h =
     let old = before.actions in
@@ -104,6 +104,6 @@ place_more before after p m ms table items same fit h =
     (all_weaker (place_fits (length old)) (place_fits (length (old ++ more.0))) (fits_more old more.0) found h.fits) in
     record {
       same = ap (map (place_model new)) items ∙ map-append (place_model new) found (p ∷ []) ∙ rw (kept, same) refl;
-      names = table ∙ ap (λ (xs : List Bytes). action_names xs (m ∷ [])) h.names ∙ action_names_push [] ms m;
+      names = table ∙ ap (λ (xs : List Bytes). all_action_names xs (m ∷ [])) h.names ∙ action_names_push [] ms m;
       fits = subst (λ (ps : List Place). list_all (place_fits (length new)) ps ≡ true) (sym items) (all_push (place_fits (length new)) found p still fit);
     }

@@ -11,7 +11,7 @@ use Rattle.lab_world.specs.declared.stages.NumberedPlaces.{NumberedPlaces}
 use Rattle.lab_world.specs.declared.stages.MadePlaces.{MadePlaces}
 use Rattle.lab_world.specs.Drafts.{assemble_fault}
 use Rattle.lab_world.specs.Models.{place_model}
-use Rattle.lab_world.specs.Wholes.{action_names, place_fits}
+use Rattle.lab_world.specs.Wholes.{all_action_names, place_fits}
 
 -- known places with a row for each joint action, in order
 abbrev pub in_order : List assembly.KnownPlace → Result (List model.Place) TextFault
@@ -20,7 +20,7 @@ in_order ks = each assembly.placed ks >>= λ qs. each assembly.ordered qs
 -- these are the places, by numbers of all the actions that stand in them
 pub record AreNumbered (n : NumberedPlaces) (ms : List model.Place) : Type 0 where
   pub same : map (place_model n.actions) n.places.items ≡ ms
-  pub names : n.actions ≡ action_names [] ms
+  pub names : n.actions ≡ all_action_names [] ms
   pub fits : list_all (place_fits (length n.actions)) n.places.items ≡ true
 
 -- placed rows make places in order

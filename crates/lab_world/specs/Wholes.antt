@@ -21,10 +21,10 @@ with_new names [] = names
 with_new names (n ∷ ns) = with_new (if stands_in n names then names else names ++ n ∷ []) ns
 
 -- the names of actions in the order in which they first stand, `names` being those of earlier places
-abbrev pub action_names : List Bytes → List model.Place → List Bytes
-action_names names [] = names
-action_names names (model.a_world w ∷ ps) = action_names (with_new (with_new names w.one) w.two) ps
-action_names names (model.an_end z ∷ ps) = action_names names ps
+abbrev pub all_action_names : List Bytes → List model.Place → List Bytes
+all_action_names names [] = names
+all_action_names names (model.a_world w ∷ ps) = all_action_names (with_new (with_new names w.one) w.two) ps
+all_action_names names (model.an_end z ∷ ps) = all_action_names names ps
 
 -- ids of actions are in range, and totals are those of the weights
 abbrev pub place_fits : ℕ → Place → Bool
@@ -33,7 +33,7 @@ place_fits actions (place.World w) =
 place_fits actions (place.End z) = true
 
 -- a game of the definitions, whose actions are named by just the names that stand in it
-abbrev pub is_whole : (grid horizon : ℕ) → Recall → (tokens names actions : List Bytes) → List Place → WorldId → Bool
-is_whole grid horizon recall tokens names actions places root =
+abbrev pub is_whole_game : (grid horizon : ℕ) → Recall → (tokens names actions : List Bytes) → List Place → WorldId → Bool
+is_whole_game grid horizon recall tokens names actions places root =
     game_ok (parts_model grid horizon recall tokens names actions places root)
-    && (list_all (place_fits (length actions)) places && pointwise bytes_eq actions (action_names [] (parts_model grid horizon recall tokens names actions places root).places))
+    && (list_all (place_fits (length actions)) places && pointwise bytes_eq actions (all_action_names [] (parts_model grid horizon recall tokens names actions places root).places))

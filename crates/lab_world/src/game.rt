@@ -1,6 +1,6 @@
 //! A whole game.
 ghost use Rattle.std.specs.Prelude.{IsTrue};
-ghost use Rattle.lab_world.specs.Wholes.{is_whole};
+ghost use Rattle.lab_world.specs.Wholes.{is_whole_game};
 
 use super::place::{Place, Recall, WorldId};
 use lab_lex::NameTable;
@@ -22,5 +22,5 @@ pub struct Game {
     pub places: Seq<Place>,
     /// A world.
     pub root: WorldId,
-    ghost whole: { IsTrue (is_whole grid horizon recall tokens names actions places root) },
+    ghost whole: { IsTrue (is_whole_game grid horizon recall tokens names actions places root) },
 }

@@ -5,7 +5,7 @@ ghost use Rattle.lab_defs_text.specs.Games as model;
 ghost use Rattle.lab_defs_text.specs.Texts.{name_of};
 ghost use Rattle.lab_lex.specs.Names.{name_bytes};
 ghost use Rattle.lab_world.specs.Models.{action_list, row_model, world_model, place_model};
-ghost use Rattle.lab_world.specs.Wholes.{with_new, action_names, place_fits};
+ghost use Rattle.lab_world.specs.Wholes.{with_new, all_action_names, place_fits};
 ghost use Rattle.lab_world.specs.Stages.{ordered_place_of, total_fits, totals_fit};
 ghost use Rattle.lab_world.specs.Made.{AreNumbered};
 ghost use Rattle.lab_world.specs.declared.place.Place.TheVariants as place;
@@ -38,7 +38,7 @@ fn numbered_place(
 ) -> Result<Place, AllocError>
     requires { totals_fit place ≡ true }
     ensures place { IfOk result (λ p. place_model actions.new p ≡ ordered_place_of place.entry) }
-    ensures actions { OnOk result (actions.new ≡ action_names actions.old (ordered_place_of place.entry ∷ [])) }
+    ensures actions { OnOk result (actions.new ≡ all_action_names actions.old (ordered_place_of place.entry ∷ [])) }
     ensures fits { IfOk result (λ p. place_fits (length actions.new) p ≡ true) }
 {
     match place {

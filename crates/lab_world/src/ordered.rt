@@ -20,7 +20,7 @@ ghost use Rattle.std.specs.Option.{option_map};
 ghost use Rattle.std.specs.List.{list_all, range_with_len};
 ghost use Rattle.lab_defs_text.specs.Agreement.{Agrees};
 ghost use Rattle.lab_defs_text.specs.Steps.{each};
-ghost use Rattle.lab_defs_text.specs.Assembly.{row_of, row_at, ordered};
+ghost use Rattle.lab_defs_text.specs.Assembly.{row_numbered, row_at, ordered};
 ghost use Rattle.lab_world.specs.Drafts.{assemble_fault};
 ghost use Rattle.lab_world.specs.Models.{row_model};
 ghost use Rattle.lab_world.specs.Stages.{
@@ -128,8 +128,8 @@ fn missing_row(line: u32, number: u64, seconds: u32) -> AssembleFault
 // Takes the row of a joint action, and leaves an empty one in its place.
 fn take_row(alloc: Global, left: &mut PlacedRows, number: u64) -> Option<Row>
     requires { list_all total_fits left.old.rows.items ≡ true }
-    ensures taken { option_map row_model result ≡ row_of number (placed_rows_of left.old) }
-    ensures others { (k : ℕ) → k ≢ number → row_of k (placed_rows_of left.new) ≡ row_of k (placed_rows_of left.old) }
+    ensures taken { option_map row_model result ≡ row_numbered number (placed_rows_of left.old) }
+    ensures others { (k : ℕ) → k ≢ number → row_numbered k (placed_rows_of left.new) ≡ row_numbered k (placed_rows_of left.old) }
     ensures total { IfSome result (λ r. total_fits r ≡ true) }
     ensures totals { list_all total_fits left.new.rows.items ≡ true }
 {

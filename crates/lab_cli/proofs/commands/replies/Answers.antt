@@ -2,7 +2,7 @@ use Rattle.std.proofs.Common.{◌++◌, ◌∷◌, [], ◌+◌, ◌<◌, length,
 use Rattle.std.specs.Option.{option_map_or}
 use Rattle.lab_defs_text.specs.Words.{lines}
 use Rattle.lab_defs_text.specs.Lines.{joined}
-use Rattle.lab_defs_report.specs.Answers.{following}
+use Rattle.lab_defs_report.specs.Answers.{led_by}
 use Rattle.lab_defs_report.specs.States.{uniform_reply}
 use Rattle.lab_defs_report.specs.Reports.{replies_from}
 use Rattle.lab_cli.proofs.ReplyLemmas.{says_refusal, replied}
@@ -27,6 +27,6 @@ loop-out-preserved c =
       so_far = λ g u.
           replied c.args.done c.loop-out.number g (replies_from c.args.done 1 g (lines c.args.behind.now)) c.loop-out.out.items (joined (uniform_reply g) ++ 10 ∷ []) c.cut.result.0.now c.loop-out.rest.now
           c.in-Some.next.now (c.loop-out.invariant.so_far g u) (c.cut.ensures.pieces ∙ ap (λ o. c.cut.result.0.now ∷ option_map_or (λ r. lines r.now) o []) c.in-Some.is) (c.in_default.ensures g)
-          ∙ ap (λ o. following o (replies_from c.args.done (c.loop-out.number + 1) g (lines c.in-Some.next.now)))
+          ∙ ap (λ o. led_by o (replies_from c.args.done (c.loop-out.number + 1) g (lines c.in-Some.next.now)))
           (sym (c.in_ok-extend_from_slice-in-Some.ensures.items ∙ ap (λ x. c.loop-out.out.items ++ x) u));
     }

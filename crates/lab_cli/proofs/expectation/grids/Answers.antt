@@ -1,5 +1,5 @@
 use Rattle.std.proofs.Common.{[], ◌+◌, ◌*◌, ◌<◌, ◌^◌, sym, ap, ◌∙◌, arith, rules}
-use Rattle.lab_defs_value.specs.Splits.{splits_along}
+use Rattle.lab_cli.specs.Splits.{splits_along}
 use Rattle.lab_unfold.specs.Values.{Unfolded}
 use Rattle.lab_world.specs.Games.{game_model}
 use Rattle.lab_cli.proofs.SplitLemmas.{grids_of, power_is, decisions_fit}

@@ -1,5 +1,5 @@
 use Rattle.std.proofs.Common.{◌≡◌, ◌<◌, ◌^◌, length, None, Some, Option, sym, ap, ◌∙◌, arith, rules}
-use Rattle.lab_defs_value.specs.Splits.{splits_along}
+use Rattle.lab_cli.specs.Splits.{splits_along}
 use Rattle.lab_unfold.specs.declared.history.Step.{Step}
 use Rattle.lab_world.specs.Games.{game_model}
 use Rattle.lab_cli.proofs.SplitLemmas.{behind_is, first_is, items_few, items_length, step_behind, weight_behind}

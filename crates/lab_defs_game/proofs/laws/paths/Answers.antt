@@ -1,4 +1,4 @@
-use Rattle.lab_defs_game.proofs.TreeLaws.{path_law, follower_law, followers_law}
+use Rattle.lab_defs_game.proofs.TreeLaws.{path_law, follower_law}
 use Rattle.lab_defs_game.proofs.PathItems.{follow_law, first_item_law}
 use Rattle.lab_defs_game.proofs.laws.paths.Goals as goal
 
@@ -7,9 +7,6 @@ returns-clause-parents c = path_law
 
 pub returns-clause-places : goal.returns-clause-places
 returns-clause-places c = follower_law
-
-pub returns-clause-followers : goal.returns-clause-followers
-returns-clause-followers c = followers_law
 
 pub returns-clause-follows : goal.returns-clause-follows
 returns-clause-follows c = follow_law

@@ -1,4 +1,6 @@
 use Rattle.lab_defs_game.proofs.TreeLaws.{span_law, node_set_law, node_span_law, begins_law, inside_law}
+use Rattle.lab_defs_game.proofs.SetNumbers.{number_law, consecutive_law}
+use Rattle.lab_defs_game.proofs.RootSets.{root_law}
 use Rattle.lab_defs_game.proofs.laws.spans.Goals as goal
 
 pub returns-clause-inside : goal.returns-clause-inside
@@ -15,3 +17,12 @@ returns-clause-begins c = begins_law
 
 pub returns-clause-parents : goal.returns-clause-parents
 returns-clause-parents c = inside_law
+
+pub returns-clause-numbers : goal.returns-clause-numbers
+returns-clause-numbers c = number_law
+
+pub returns-clause-consecutive : goal.returns-clause-consecutive
+returns-clause-consecutive c = consecutive_law
+
+pub returns-clause-roots : goal.returns-clause-roots
+returns-clause-roots c = root_law

@@ -1,5 +1,5 @@
 use Rattle.lab_defs_value.proofs.GadgetSets.{gadget_law}
-use Rattle.lab_defs_value.proofs.GadgetLaws.{gadget_form_law}
+use Rattle.lab_defs_value.proofs.GadgetForms.{gadget_form_law}
 use Rattle.lab_defs_value.proofs.GameGadgets.{game_gadget_law}
 use Rattle.lab_defs_value.proofs.laws.gadgets.Goals as goal
 

@@ -1,6 +1,6 @@
 use Rattle.lab_defs_value.proofs.RegretSums.{actions_law, value_law, regret_law}
 use Rattle.lab_defs_value.proofs.Earnings.{earning_law}
-use Rattle.lab_defs_value.proofs.Rounds.{tally_law, round_law}
+use Rattle.lab_defs_value.proofs.Rounds.{regret_lists_law, round_law}
 use Rattle.lab_defs_value.proofs.laws.regrets.Goals as goal
 
 pub returns-clause-there : goal.returns-clause-there
@@ -16,7 +16,7 @@ pub returns-clause-earnings : goal.returns-clause-earnings
 returns-clause-earnings c = earning_law
 
 pub returns-clause-tallies : goal.returns-clause-tallies
-returns-clause-tallies c = tally_law
+returns-clause-tallies c = regret_lists_law
 
 pub returns-clause-rounds : goal.returns-clause-rounds
 returns-clause-rounds c = round_law

@@ -1,7 +1,8 @@
 use Rattle.std.proofs.Common.{rules, ◌<◌, ◌^◌, length, ap, ◌∙◌, subst, arith}
 use Rattle.std.proofs.lemmas.List.{length-map}
 use Rattle.lab_world.specs.Games.{game_model}
-use Rattle.lab_tree.specs.Ends.{ends_by_nodes, end_in}
+use Rattle.lab_tree.specs.Ends.{end_in}
+use Rattle.lab_defs_game.specs.Nodes.{ends_by_nodes}
 use Rattle.lab_tree.proofs.EndLemmas.{histories_few}
 use Rattle.lab_tree.proofs.RowLemmas.{ends_few, end_at, row_is}
 use Rattle.lab_tree.proofs.row_infos.row_info.Goals as goal

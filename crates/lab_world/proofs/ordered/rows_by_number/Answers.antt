@@ -5,7 +5,7 @@ use Rattle.std.proofs.lemmas.List.{map-append}
 use Rattle.lab_math.proofs.ListTests.{all_push}
 use Rattle.lab_defs_text.specs.Steps.{each}
 use Rattle.lab_defs_text.specs.Agreement.{FaultAgrees}
-use Rattle.lab_defs_text.specs.Assembly.{row_at, row_of}
+use Rattle.lab_defs_text.specs.Assembly.{row_at, row_numbered}
 use Rattle.lab_world.specs.declared.place.Row.{Row}
 use Rattle.lab_world.specs.declared.parts.AssembleFault.{AssembleFault}
 use Rattle.lab_world.specs.declared.parts.AssembleFault.TheVariants.{MissingRow}
@@ -35,7 +35,7 @@ loop-number-preserved c =
     let i = c.loop-number.number in
     let few : i < c.args.firsts * c.args.seconds = search rules in
     let row = c.in-Some.row in
-    let there : row_of i rows ≡ Some (row_model row) = sym (c.loop-number.invariant.kept i (omega arith)) ∙ sym c.take_row.ensures.taken ∙ ap (option_map row_model) c.in-Some.is in
+    let there : row_numbered i rows ≡ Some (row_model row) = sym (c.loop-number.invariant.kept i (omega arith)) ∙ sym c.take_row.ensures.taken ∙ ap (option_map row_model) c.in-Some.is in
     let made : map row_model c.push.new.self.items ≡ map row_model c.loop-number.found.items ++ row_model row ∷ [] = ap (map row_model) c.in_ok-push.ensures.items ∙ map-append row_model c.loop-number.found.items (row ∷ []) in
     record {
       made = row_next c.args.line c.args.seconds rows (map row_model c.loop-number.found.items) (map row_model c.push.new.self.items) i (c.args.firsts * c.args.seconds) (row_model row)
@@ -51,7 +51,7 @@ returns-in_default-clause-rows c =
     let i = c.loop-number.number in
     let few : i < c.args.firsts * c.args.seconds = search rules in
     let gone : c.take_row.result ≡ None = search rules in
-    let none : row_of i rows ≡ None = sym (c.loop-number.invariant.kept i (omega arith)) ∙ sym c.take_row.ensures.taken ∙ ap (option_map row_model) gone in
+    let none : row_numbered i rows ≡ None = sym (c.loop-number.invariant.kept i (omega arith)) ∙ sym c.take_row.ensures.taken ∙ ap (option_map row_model) gone in
     let all = each (row_at c.args.line c.args.seconds rows) (range_with_len 0 (c.args.firsts * c.args.seconds)) in
     let fault : c.missing_row.result ≡ MissingRow c.args.line (i / c.args.seconds) (i % c.args.seconds) = search rules in
     subst (λ (e : AssembleFault). FaultAgrees (assemble_fault e) all) (sym fault)

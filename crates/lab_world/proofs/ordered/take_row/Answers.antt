@@ -2,7 +2,7 @@ use Rattle.std.proofs.Common.{◌≡◌, nat_eq, true, List, Option, Some, None,
 use Rattle.std.specs.Prelude.{IfSome}
 use Rattle.std.specs.List.{list_all}
 use Rattle.std.specs.Option.{option_map}
-use Rattle.lab_defs_text.specs.Assembly.{row_of}
+use Rattle.lab_defs_text.specs.Assembly.{row_numbered}
 use Rattle.lab_world.specs.declared.place.Row.{Row}
 use Rattle.lab_world.specs.Models.{row_model}
 use Rattle.lab_world.specs.Stages.{numbered_rows, total_fits}
@@ -23,7 +23,7 @@ returns-clause-taken c =
 pub returns-clause-others : goal.returns-clause-others
 returns-clause-others c k ne =
     let at : position (nat_eq c.args.number) c.args.left.now.numbers ≡ Some c.in_ok-at.at = search rules in
-    ap (λ (rs : List Row). row_of k (numbered_rows c.args.left.now.numbers rs)) c.take_at.ensures.others
+    ap (λ (rs : List Row). row_numbered k (numbered_rows c.args.left.now.numbers rs)) c.take_at.ensures.others
     ∙ (row_taken c.args.number c.in_ok-at.at c.args.left.now.numbers c.args.left.now.rows.items at).others k _ ne
 
 pub returns-clause-total : goal.returns-clause-total

@@ -1,10 +1,10 @@
 use Rattle.std.proofs.Common.{◌∙◌, ◌∷◌, List, ap, sym, subst, length, arith}
 use Rattle.std.proofs.lemmas.List.{length-map}
 use Rattle.lab_world.specs.Games.{game_model}
-use Rattle.lab_defs_game.specs.Nodes.{nodes, node_ends}
+use Rattle.lab_defs_game.specs.Nodes.{nodes, node_ends, ends_by_nodes}
 use Rattle.lab_tree.specs.declared.end.End.{End}
 use Rattle.lab_tree.specs.Trees.{row_in}
-use Rattle.lab_tree.specs.Ends.{ends_by_nodes, end_in, end_starts, parts_of, AreCuts}
+use Rattle.lab_tree.specs.Ends.{end_in, end_starts, parts_of, AreCuts}
 use Rattle.lab_tree.proofs.Parts.{part_ends}
 use Rattle.lab_tree.proofs.EndLemmas.{starts_is, cuts_are, node_rows_are, histories_few, nodes_few}
 use Rattle.lab_tree.proofs.RowLemmas.{ends_few}

@@ -1,7 +1,7 @@
 use Rattle.std.proofs.Common.{ap, ◌∙◌, sym, subst}
 use Rattle.lab_world.specs.Games.{game_model}
 use Rattle.lab_unfold.proofs.WorldLemmas.{whole_parts}
-use Rattle.lab_tree.specs.TreeForms.{IsPlayable}
+use Rattle.lab_defs_game.specs.Accepted.{IsAccepted}
 use Rattle.lab_tree.specs.TreeParts.{PartsValue, AreParts, tree_with}
 use Rattle.lab_tree.proofs.PartLemmas.{parts_are, tree_is}
 use Rattle.lab_tree.proofs.tree.Tree.build_with.Goals as goal
@@ -9,7 +9,7 @@ use Rattle.lab_tree.proofs.tree.Tree.build_with.Goals as goal
 pub invariant_of-result : goal.invariant_of-result
 invariant_of-result c =
     let g = game_model c.args.game.now in
-    let ok : IsPlayable g = record { whole = (whole_parts c.args.game.now).0; accepted = c.requires.accepted; recall = c.requires.recall } in
+    let ok : IsAccepted g = record { good = (whole_parts c.args.game.now).0; unfolds = c.requires.accepted; recalls = c.requires.recall } in
     subst (λ (v : PartsValue). AreParts v) (sym c.in-Ok.ensures) (parts_are g ok)
 
 pub returns : goal.returns

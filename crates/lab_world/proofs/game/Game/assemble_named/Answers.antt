@@ -13,7 +13,7 @@ use Rattle.lab_world.specs.declared.game.Game.{Game}
 use Rattle.lab_world.specs.Drafts.{part_place_of, named_draft_of, assemble_fault}
 use Rattle.lab_world.specs.Games.{game_model}
 use Rattle.lab_world.specs.Models.{place_model}
-use Rattle.lab_world.specs.Wholes.{action_names, place_fits}
+use Rattle.lab_world.specs.Wholes.{all_action_names, place_fits}
 use Rattle.lab_world.specs.Stages.{Rooted, rooted_of}
 use Rattle.lab_world.proofs.PartLemmas.{named, parts_are_draft, rooted_same, assembled_game, assembled_fault, whole_is}
 use Rattle.lab_world.proofs.game.Game.assemble_named.Goals as goal
@@ -44,7 +44,7 @@ invariant_of-result c =
     let game = assembled_game p (rooted_of made) actions c.from_vec.result c.requires.named (same ∙ c.in_ok-numbered.ensures.places) places in
     record {
       whole = whole_is (named_draft_of p) p.grid p.horizon p.recall p.tokens p.names actions c.from_vec.result (record { 0 = made.root }) c.requires.fit game
-          (ap (list_all (place_fits _)) c.from_vec.ensures ∙ c.in_ok-numbered.ensures.numbered.fits) (c.in_ok-numbered.ensures.numbered.names ∙ ap (action_names []) (sym places));
+          (ap (list_all (place_fits _)) c.from_vec.ensures ∙ c.in_ok-numbered.ensures.numbered.fits) (c.in_ok-numbered.ensures.numbered.names ∙ ap (all_action_names []) (sym places));
     }
 
 pub returns : goal.returns

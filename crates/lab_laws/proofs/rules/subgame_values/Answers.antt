@@ -1,5 +1,0 @@
-use Rattle.lab_laws.proofs.RuleSubgames.{subgame_value_law}
-use Rattle.lab_laws.proofs.rules.subgame_values.Goals as goal
-
-pub returns : goal.returns
-returns c = subgame_value_law

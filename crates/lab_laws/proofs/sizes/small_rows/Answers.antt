@@ -1,5 +1,0 @@
-use Rattle.lab_laws.proofs.SizeGadgets.{row_law}
-use Rattle.lab_laws.proofs.sizes.small_rows.Goals as goal
-
-pub returns : goal.returns
-returns c = row_law

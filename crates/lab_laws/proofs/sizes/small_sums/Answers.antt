@@ -1,5 +1,0 @@
-use Rattle.lab_laws.proofs.SizeSums.{sum_law}
-use Rattle.lab_laws.proofs.sizes.small_sums.Goals as goal
-
-pub returns : goal.returns
-returns c = sum_law

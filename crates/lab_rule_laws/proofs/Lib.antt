@@ -1,0 +1,17 @@
+pub mod ReplyValues
+pub mod RulePaths
+pub mod RuleEntries
+pub mod RuleGadgets
+pub mod RuleNodes
+pub mod RuleParts
+pub mod RuleSubgames
+pub mod ViewShares
+pub mod ViewPaths
+pub mod ViewGadgets
+pub mod PathPlaces
+pub mod PathSteps
+pub mod GamePaths
+pub mod SubgameFactors
+pub mod ViewItems
+pub mod GameViews
+pub mod ViewRules

@@ -1,0 +1,11 @@
+pub mod SizeMass
+pub mod SizeRanges
+pub mod SizeLimits
+pub mod SizeRows
+pub mod SizeUnits
+pub mod SizeGadgets
+pub mod SizeWays
+pub mod SizeCounts
+pub mod SizeSums
+pub mod SizeRegrets
+pub mod SizeShares
