@@ -3,7 +3,7 @@ use Rattle.std.specs.Prelude.{ℕ, pos, negsuc, List, [], ◌∷◌, Some, None}
 use lib.Chars.{codes}
 use Rattle.lab_defs_text.specs.Words.{Bytes}
 use Rattle.lab_defs_text.specs.Games.{GameModel, Place, a_world, an_end, Outcome, by_acts, by_seen}
-use Rattle.lab_defs_game.specs.Forms.{Taken}
+use Rattle.lab_defs_game.specs.Paths.{SetAction}
 use Rattle.lab_defs_game.specs.Nodes.{PathItem}
 use Rattle.lab_defs_game.specs.Counts.{Counts}
 
@@ -16,7 +16,7 @@ abbrev pub world : List Bytes → List Bytes → List (List Outcome) → Place
 world one two rows = a_world (record { one = one; two = two; rows = rows })
 
 -- an action at a set
-abbrev pub at : (set action : ℕ) → Taken
+abbrev pub at : (set action : ℕ) → SetAction
 at set action = record { set = set; action = action }
 
 -- a set that follows none
@@ -167,6 +167,21 @@ loop = record {
 -- a world that leads to itself in two ways
 abbrev pub doubling : GameModel
 doubling = record loop { horizon = 32; places = world (codes "." ∷ []) (codes "." ∷ []) ((to 1 0 0 0 0 ∷ to 1 0 0 0 0 ∷ []) ∷ []) ∷ [] }
+
+-- a step by some outcomes, where place 1 is a world that leads to itself in two ways, and place 2 an end
+abbrev pub late_doubling : List Outcome → GameModel
+late_doubling outcomes = record {
+  grid = 2;
+  horizon = 16;
+  recall = by_acts;
+  tokens = codes "-" ∷ [];
+  names = codes "start" ∷ codes "a" ∷ codes "e" ∷ [];
+  places = world (codes "." ∷ []) (codes "." ∷ []) (outcomes ∷ [])
+      ∷ world (codes "." ∷ []) (codes "." ∷ []) ((to 1 1 0 0 0 ∷ to 1 1 0 0 0 ∷ []) ∷ [])
+      ∷ an_end (pos 0)
+      ∷ [];
+  root = 0;
+}
 
 -- one set with two worlds, where the first seat has other actions
 abbrev pub differs : GameModel

@@ -7,3 +7,5 @@ pub mod Texts
 pub mod GeneratedTexts
 pub mod Sessions
 pub mod Certificates
+pub mod Cards
+pub mod ForkGadgets

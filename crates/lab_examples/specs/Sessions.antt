@@ -5,4 +5,4 @@ use Rattle.lab_examples.specs.Games.{fork}
 
 -- a session on the fork before its blueprint
 abbrev pub fork_begun : State
-fork_begun = record { game = fork; plays = None }
+fork_begun = record { game = fork; profile = None }

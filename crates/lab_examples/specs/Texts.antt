@@ -13,6 +13,22 @@ chain payoff = text (codes "fosg 1" ∷ codes "grid 2" ∷ codes "horizon 4" ∷
     ∷ codes "row . ." ∷ codes "to 65536 d - - -" ∷ codes "world d" ∷ codes "one ." ∷ codes "two ." ∷ codes "row . ."
     ∷ codes "to 65536 e - - -" ∷ (codes "end e " ++ payoff) ∷ codes "root a" ∷ codes "done" ∷ [])
 
+-- five steps with no choice, four of weight 1048576 and one of the weight that a word spells, to a payoff of 1
+abbrev pub long_chain : Bytes → Bytes
+long_chain weight = text (codes "fosg 1" ∷ codes "grid 2" ∷ codes "horizon 5" ∷ codes "memory acts" ∷ codes "token -" ∷ codes "world a"
+    ∷ codes "one ." ∷ codes "two ." ∷ codes "row . ." ∷ codes "to 1048576 b - - -" ∷ codes "world b" ∷ codes "one ."
+    ∷ codes "two ." ∷ codes "row . ." ∷ codes "to 1048576 c - - -" ∷ codes "world c" ∷ codes "one ." ∷ codes "two ."
+    ∷ codes "row . ." ∷ codes "to 1048576 d - - -" ∷ codes "world d" ∷ codes "one ." ∷ codes "two ." ∷ codes "row . ."
+    ∷ codes "to 1048576 e - - -" ∷ codes "world e" ∷ codes "one ." ∷ codes "two ." ∷ codes "row . ." ∷ (codes "to " ++ (weight ++ codes " f - - -"))
+    ∷ codes "end f 1" ∷ codes "root a" ∷ codes "done" ∷ [])
+
+-- seat 1 chooses between rows whose weights come to 2 and to 4
+abbrev pub uneven_rows : Bytes
+uneven_rows = text (codes "fosg 1" ∷ codes "grid 2" ∷ codes "horizon 1" ∷ codes "memory acts" ∷ codes "token -" ∷ codes "world start"
+    ∷ codes "one a b" ∷ codes "two ." ∷ codes "row a ." ∷ codes "to 1 win - - -" ∷ codes "to 1 lose - - -"
+    ∷ codes "row b ." ∷ codes "to 1 win - - -" ∷ codes "to 3 lose - - -" ∷ codes "end win 1" ∷ codes "end lose -1"
+    ∷ codes "root start" ∷ codes "done" ∷ [])
+
 -- a world that leads back to itself
 abbrev pub loop : Bytes
 loop = text (codes "fosg 1" ∷ codes "grid 2" ∷ codes "horizon 3" ∷ codes "memory acts" ∷ codes "token -" ∷ codes "world a"

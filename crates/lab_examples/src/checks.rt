@@ -4,7 +4,7 @@ ghost use lib.Chars.{codes};
 ghost use Rattle.lab_defs_report.specs.Modes.{report_of};
 ghost use Rattle.lab_examples.specs.Inputs.{text, check, pennies, fork};
 ghost use Rattle.lab_examples.specs.KuhnText.{kuhn};
-ghost use Rattle.lab_examples.specs.Texts.{chain, loop, doubling, differs, forgets, pennies_with, pennies_first};
+ghost use Rattle.lab_examples.specs.Texts.{chain, long_chain, uneven_rows, loop, doubling, differs, forgets, pennies_with, pennies_first};
 ghost use Rattle.lab_examples.specs.GeneratedTexts.{goofspiel, dice};
 
 /// Matching pennies: two sides for each seat.
@@ -40,6 +40,21 @@ pub fn chain_of_one()
 /// A payoff of 2 in its place does not fit.
 pub fn chain_of_two()
     ensures { report_of check (chain (codes "2")) ≡ text (codes "refused 28 SizePassed 2 18446744073709551616 0 0" ∷ []) }
+{}
+
+/// A scale of 2^80 is told.
+pub fn the_greatest_scale_told()
+    ensures { report_of check (long_chain (codes "1")) ≡ text (codes "refused 33 SizePassed 1 1208925819614629174706176 0 0" ∷ []) }
+{}
+
+/// Of one that is greater the report says no more than that.
+pub fn a_scale_past_it()
+    ensures { report_of check (long_chain (codes "2")) ≡ text (codes "refused 33 SizePassed 1 over 0 0" ∷ []) }
+{}
+
+/// Rows of weights 2 and 4 at one step are counted in quarters, their least common multiple.
+pub fn uneven_rows_in_quarters()
+    ensures { report_of check uneven_rows ≡ text (codes "game histories 5 nodes 2 sets 1 1 most 1 0 scale 4" ∷ []) }
 {}
 
 /// A world that leads back to itself passes any horizon.

@@ -3,7 +3,7 @@ ghost use Rattle.std.specs.Prelude.{◌≡◌, ◌++◌, ◌∷◌, []};
 ghost use lib.Chars.{codes};
 ghost use Rattle.lab_defs_report.specs.Reports.{report_of, replies_of};
 ghost use Rattle.lab_examples.specs.Inputs.{text, session, check, pennies, fork};
-ghost use Rattle.lab_examples.specs.Texts.{loop};
+ghost use Rattle.lab_examples.specs.Texts.{uneven_rows, loop};
 
 /// Matching pennies on a grid of 2 is fair.
 pub fn pennies_on_an_even_grid()
@@ -33,6 +33,11 @@ pub fn empty()
 /// Chance, and a choice of the second seat, come before that of the first.
 pub fn fork_with_even_splits()
     ensures { report_of session (fork ++ text (codes "expect uniform" ∷ [])) ≡ text (codes "expect -5/6" ∷ []) }
+{}
+
+/// Each row has its own whole: by halves seat 1 earns nothing, by quarters it loses a half, so that it expects to lose a quarter.
+pub fn uneven_rows_with_even_splits()
+    ensures { report_of session (uneven_rows ++ text (codes "expect uniform" ∷ [])) ≡ text (codes "expect -1/4" ∷ []) }
 {}
 
 /// A game that does not end is refused at its last line, before any command.

@@ -1,13 +1,14 @@
 //! What games unfold to, and why some do not.
-ghost use Rattle.std.specs.Prelude.{◌≡◌, ◌^◌, ◌∷◌, [], map, Some, None};
+ghost use Rattle.std.specs.Prelude.{◌≡◌, ◌+◌, ◌^◌, ◌∷◌, [], map, Some, None};
 ghost use Rattle.lab_defs_text.specs.Games.{by_acts};
 ghost use Rattle.lab_defs_game.specs.Histories.{histories, inner_histories};
 ghost use Rattle.lab_defs_game.specs.Sets.{seen, sets, set_number};
-ghost use Rattle.lab_defs_game.specs.Nodes.{nodes, node_of, span_from, span_to, parent, path_items};
-ghost use Rattle.lab_defs_game.specs.Unfolding.{unfold_fault, too_many_histories, horizon_passed, size_passed};
+ghost use Rattle.lab_defs_game.specs.Nodes.{nodes, node_of, span_from, span_to, path_items};
+ghost use Rattle.lab_defs_game.specs.Paths.{parent};
+ghost use Rattle.lab_defs_game.specs.Unfolding.{unfold_fault, told_scale, too_many_histories, horizon_passed, size_passed};
 ghost use Rattle.lab_defs_game.specs.Recall.{recall_fault, legal_differs, forgotten};
 ghost use Rattle.lab_defs_game.specs.Counts.{counts_of};
-ghost use Rattle.lab_examples.specs.Games.{counted, at, first, later, kuhn, fork, chain, heavy_chain, loop, doubling, differs, forgets, long_chain, differs_behind, forgets_behind};
+ghost use Rattle.lab_examples.specs.Games.{counted, at, to, first, later, late_doubling, kuhn, fork, chain, heavy_chain, loop, doubling, differs, forgets, long_chain, differs_behind, forgets_behind};
 
 /// Kuhn poker with three cards: histories, nodes, sets of each seat, most decisions of each seat, scale.
 pub fn kuhn_counts()
@@ -140,6 +141,16 @@ pub fn short_doubling_passes_the_horizon()
     ensures { unfold_fault (record doubling { horizon = 15 }) ≡ Some (horizon_passed 0) }
 {}
 
+/// Where histories begin to double a step later there are 65,536 at the sixteenth, as many as may be, and they do not end.
+pub fn as_many_histories_as_may_be()
+    ensures { unfold_fault (late_doubling (to 1 1 0 0 0 ∷ [])) ≡ Some (horizon_passed 1) }
+{}
+
+/// One more is too many.
+pub fn one_history_too_many()
+    ensures { unfold_fault (late_doubling (to 1 1 0 0 0 ∷ to 1 2 0 0 0 ∷ [])) ≡ Some (too_many_histories 16) }
+{}
+
 /// A scale of 2^64 is the greatest with a payoff of 1.
 pub fn chain_is_just_small_enough()
     ensures unfolds { unfold_fault chain ≡ None }
@@ -180,4 +191,10 @@ pub fn second_seat_differs()
 /// So with its own actions.
 pub fn second_seat_forgets()
     ensures { recall_fault forgets_behind ≡ Some (forgotten 2 1 2) }
+{}
+
+/// A scale is reported up to 2^80, and no greater one.
+pub fn scales_told()
+    ensures most { told_scale (2 ^ 80) ≡ Some (2 ^ 80) }
+    ensures past { told_scale (2 ^ 80 + 1) ≡ None }
 {}
