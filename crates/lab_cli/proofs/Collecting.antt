@@ -1,6 +1,7 @@
 -- The lines of a game that are collected from a source, and what stops them.
-use Rattle.std.proofs.Common.{◌≡◌, ℕ, ◌+◌, ◌-◌, ◌≤◌, Bool, true, false, [], ◌∷◌, ◌++◌, length, Option, Result, Ok, Err, IfOk, IfErr, None, Some, refl, sym, ap, ◌∙◌, subst, arith, length-append, append_assoc, append-nil}
+use Rattle.std.proofs.Common.{◌≡◌, ◌≢◌, ℕ, ◌+◌, ◌-◌, ◌≤◌, Bool, true, false, [], ◌∷◌, ◌++◌, length, Option, Result, Ok, Err, IfOk, IfErr, None, Some, refl, sym, ap, ◌∙◌, subst, arith, length-append, append_assoc, append-nil}
 use Rattle.std.specs.Prelude.{IsTrue}
+use Rattle.std.specs.Result.{IsErr, IsErrAnd}
 use Rattle.std.specs.Str.{bytes_eq}
 use Rattle.std.specs.Io.KnownBytes.{Consumes, IsAtEnd}
 use lib.Chars.{codes}
@@ -118,6 +119,11 @@ cut_by_stop F old left new ahead text n allowance read.Memory s c e t f h = subs
 -- a count that rose from a later number rose from an earlier one
 pub rose_earlier : (a b c : ℕ) → a ≤ b → Rose b c → Rose a c
 rose_earlier a b c h r = omega (arith, h, r)
+
+-- an error that is passed on is a fault of the source where it was one before
+pub no_fault_passed : {T U : Type 0} (s : Stop) (r : Result T Stop) → IsErr r × IsErrAnd r (λ e. e ≡ s) → r ≢ Err stop.ReadFault → ◌≢◌ {A = Result U Stop} (Err s) (Err stop.ReadFault)
+no_fault_passed s (Ok x) h other = absurd h.1
+no_fault_passed s (Err t) h other = λ e. let same : s ≡ stop.ReadFault = cc in other (ap Err (h.1 ∙ same))
 
 -- a line within the allowance
 pub line_fits : (left allowance : ℕ) (text line : Bytes) → left + length (line ++ 10 ∷ []) ≡ allowance → allowance + length text ≡ game_limit → length line + 1 ≤ game_limit - length text

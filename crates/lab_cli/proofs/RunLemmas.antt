@@ -47,6 +47,10 @@ IsStatusOf Done a = a.refuses ≡ false
 IsStatusOf Refused a = a.refuses ≡ true
 IsStatusOf _ a = ⊥
 
+-- an answer that is known does not end with a fault of the source
+known_no_fault : (s good : Status) (a : Answer) (written whole : Bytes) (R : Type 0) → Kind s good written whole R → IsStatusOf good a → s ≢ ReadFault
+known_no_fault s good a written whole R k h = no_other s good ReadFault written whole R k (λ e. subst (λ x. IsStatusOf x a) e h) (λ x. cc) (λ x. cc)
+
 -- ---- reports
 
 -- the bytes that were read are known by whether the source was read to its end
@@ -105,6 +109,7 @@ tells_rejected ws (Some input) before after f k s e w = (
   record {
     front = front_of_same w.written usage_line _ w.front (report_no_mode ws ([] ++ input) e);
     early = λ _. front_of_same w.written usage_line _ w.front (replies_no_mode ws [] e);
+    fault = λ _. front_of_same w.written usage_line _ w.front (replies_no_mode ws [] e);
     ends = ends_as s BadWords ws ([] ++ input) w.written usage_line _ w.kind (λ _. tt);
     to_the_end = λ d. absurd (no_other s BadWords Done w.written usage_line _ w.kind (λ x. cc) (λ x. cc) (λ x. cc) d);
   },
@@ -125,6 +130,7 @@ tells_known ws m (Some input) (Some left) before after f k s good a e h st w =
         front = front_of_same w.written a.out _ w.front (ap (λ (x : Answer). x.out) whole);
         early = λ some. front_of_same w.written a.out _ w.front
             (ap (λ (x : Answer). x.out) (ap (built_answer false h.taken) e ∙ early_answer (Some m) h.taken left a h.ended h.at_end h.same some));
+        fault = λ d. absurd (known_no_fault s good a w.written a.out _ w.kind st d);
         ends = ends_as s good ws (h.taken ++ left) w.written a.out _ w.kind (ends_good good a ws (h.taken ++ left) w.written st whole);
         to_the_end = done_reads_all s good a w.written _ left w.kind st (at_end_by h.ended left a.refuses h.at_end h.early);
       },
@@ -147,6 +153,7 @@ tells_nothing ws (Some input) (Some left) before after f k s good h g d w = (
   record {
     front = nothing_front w.written _ w.front;
     early = λ _. nothing_front w.written _ w.front;
+    fault = λ _. nothing_front w.written _ w.front;
     ends = ends_as s good ws (h.0 ++ left) w.written [] _ w.kind (λ _. g (h.0 ++ left) w.written);
     to_the_end = λ e. absurd (no_other s good Done w.written [] _ w.kind d (λ x. cc) (λ x. cc) e);
   },

@@ -6,7 +6,7 @@ use Rattle.lab_defs_text.specs.Words.{Bytes}
 use Rattle.lab_defs_report.specs.Laws.{IsFront}
 use Rattle.lab_defs_report.specs.Reports.{report_of, replies_of, is_refused}
 use Rattle.lab_cli.specs.declared.status.Status.{Status}
-use Rattle.lab_cli.specs.declared.status.Status.TheVariants.{Done, BadWords, Refused, Memory, WriteFault}
+use Rattle.lab_cli.specs.declared.status.Status.TheVariants.{Done, BadWords, Refused, Memory, ReadFault, WriteFault}
 
 -- where a run is done, or refused, what was written is the whole report, without a refusal or with one
 abbrev pub EndsAs : Status → List Bytes → Bytes → Bytes → Type 0
@@ -20,6 +20,8 @@ pub record HasRun (status : Status) (words : List Bytes) (taken left written : B
   pub front : IsFront written (report_of words (taken ++ left))
   -- nor, where some of it was not read, than the replies to what was
   pub early : left ≢ [] → IsFront written (replies_of words taken)
+  -- nor than these where the source failed, though nothing of it may be left
+  pub fault : status ≡ ReadFault → IsFront written (replies_of words taken)
   pub ends : EndsAs status words (taken ++ left) written
   pub to_the_end : status ≡ Done → left ≡ []
 

@@ -1,5 +1,5 @@
 -- What a part of a run has written.
-use Rattle.std.specs.Prelude.{◌≡◌, ℕ, ◌≤◌, ◌⊎◌, [], Result, Ok, Err}
+use Rattle.std.specs.Prelude.{◌≡◌, ◌≢◌, ℕ, ◌≤◌, ◌⊎◌, [], Result, Ok, Err}
 use Rattle.std.specs.Global.{Vec}
 use Rattle.std.specs.declared.option.Option.{Option}
 use Rattle.std.specs.Io.KnownBytes.{Appends}
@@ -17,6 +17,7 @@ pub record Writes (before after : Option Bytes) (faults_before faults_after : �
   pub appended : Appends before after written
   pub front : IsFront written whole
   pub later : faults_before ≤ faults_after
+  pub no_fault : status ≢ WriteFault → faults_after ≡ faults_before
   pub kind : ((status ≡ good) × (written ≡ whole)) ⊎ (((status ≡ WriteFault) × Rose faults_before faults_after) ⊎ (status ≡ Memory))
 
 -- the bytes of an answer, none where there is none

@@ -1,5 +1,5 @@
 //! The mode `check`.
-ghost use Rattle.std.specs.Prelude.{◌≡◌, ◌≤◌, [], Some, IsTrue};
+ghost use Rattle.std.specs.Prelude.{◌≡◌, ◌≢◌, ◌≤◌, [], Some, IsTrue};
 ghost use Rattle.lab_io.specs.Causes.{Rose};
 ghost use Rattle.lab_defs_report.specs.Modes as mode;
 ghost use Rattle.lab_cli.specs.Stops.{Says, Found, Advances};
@@ -24,6 +24,7 @@ pub fn check<S: Source>(
         (Found (Some mode.check) (S.left source.old) (S.left source.new)) result }
     ensures advances { Advances (S.left source.old) (S.left source.new) }
     ensures later { S.faults source.old ≤ S.faults source.new }
+    ensures no_fault { result ≢ Err Stop.ReadFault → S.faults source.new ≡ S.faults source.old }
 {
     let part = GamePart::read(alloc, reader, source)?;
     let played = played_game(alloc, part.text.as_slice(), part.done)?;

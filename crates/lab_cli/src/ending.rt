@@ -1,5 +1,5 @@
 //! The end of an input that is a game alone.
-ghost use Rattle.std.specs.Prelude.{◌≡◌, ◌≤◌, [], IsTrue, OnOk, IfErr};
+ghost use Rattle.std.specs.Prelude.{◌≡◌, ◌≢◌, ◌≤◌, [], IsTrue, OnOk, IfErr};
 ghost use Rattle.lab_io.specs.Causes.{Rose};
 ghost use Rattle.lab_io.specs.Reading.{Takes, IsEnd};
 ghost use Rattle.lab_cli.specs.Stops.{Advances};
@@ -25,6 +25,7 @@ pub fn check_end<S: Source>(
         (NotEnded (Rose (S.faults source.old) (S.faults source.new)) reader.old.ahead (S.left source.old) (S.left source.new) done) }
     ensures advances { Advances (S.left source.old) (S.left source.new) }
     ensures later { S.faults source.old ≤ S.faults source.new }
+    ensures no_fault { result ≢ Err Stop.ReadFault → S.faults source.new ≡ S.faults source.old }
 {
     reader.allow(0);
     match reader.next(source) {

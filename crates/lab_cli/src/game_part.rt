@@ -2,6 +2,7 @@
 //! line by itself.
 ghost use Rattle.std.specs.Prelude.{
   ◌≡◌,
+  ◌≢◌,
   ◌≤◌,
   ◌+◌,
   ◌++◌,
@@ -58,6 +59,7 @@ impl GamePart {
             (CutsOff (Rose (S.faults source.old) (S.faults source.new)) (S.left source.old) (S.left source.new)) }
         ensures advances { Advances (S.left source.old) (S.left source.new) }
         ensures later { S.faults source.old ≤ S.faults source.new }
+        ensures no_fault { result ≢ Err Stop.ReadFault → S.faults source.new ≡ S.faults source.old }
     {
         reader.allow(GAME_LIMIT);
         let mut text = Vec::new(alloc);

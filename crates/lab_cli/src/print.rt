@@ -1,5 +1,5 @@
 //! The mode `print`.
-ghost use Rattle.std.specs.Prelude.{◌≡◌, ◌≤◌, [], Some, IsTrue};
+ghost use Rattle.std.specs.Prelude.{◌≡◌, ◌≢◌, ◌≤◌, [], Some, IsTrue};
 ghost use Rattle.lab_io.specs.Causes.{Rose};
 ghost use Rattle.lab_defs_report.specs.Modes as mode;
 ghost use Rattle.lab_cli.specs.Stops.{Says, Found, Advances};
@@ -24,6 +24,7 @@ pub fn print<S: Source>(
         (Found (Some mode.print) (S.left source.old) (S.left source.new)) result }
     ensures advances { Advances (S.left source.old) (S.left source.new) }
     ensures later { S.faults source.old ≤ S.faults source.new }
+    ensures no_fault { result ≢ Err Stop.ReadFault → S.faults source.new ≡ S.faults source.old }
 {
     let mut part = GamePart::read(alloc, reader, source)?;
     let game = game_of(alloc, part.text.as_slice())?;

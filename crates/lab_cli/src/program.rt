@@ -1,5 +1,5 @@
 //! A run of the program, from its words and a source to a sink.
-ghost use Rattle.std.specs.Prelude.{◌≡◌, ◌≤◌, map, string_bytes, IfSome, is_some, true, Some, None};
+ghost use Rattle.std.specs.Prelude.{◌≡◌, ◌≢◌, ◌≤◌, map, string_bytes, IfSome, is_some, true, Some, None};
 ghost use Rattle.std.specs.Io.KnownBytes.{Appends};
 ghost use Rattle.lab_io.specs.Causes.{Rose};
 ghost use Rattle.lab_defs_report.specs.Modes.{usage_line};
@@ -35,6 +35,10 @@ pub fn run<S: Source, K: Sink>(
     ensures later { (S.faults source.old ≤ S.faults source.new) × (K.faults sink.old ≤ K.faults sink.new) }
     ensures read_fault { result ≡ Status.ReadFault → Rose (S.faults source.old) (S.faults source.new) }
     ensures write_fault { result ≡ Status.WriteFault → Rose (K.faults sink.old) (K.faults sink.new) }
+
+    // and no other status follows a read or a write that failed
+    ensures no_read_fault { result ≢ Status.ReadFault → S.faults source.new ≡ S.faults source.old }
+    ensures no_write_fault { result ≢ Status.WriteFault → K.faults sink.new ≡ K.faults sink.old }
     ensures answer { is_some (built_mode (map string_bytes words.now)) ≡ true → IfSome (S.left source.old) (λ input.
         ¬ Rose (S.faults source.old) (S.faults source.new) → ¬ Rose (K.faults sink.old) (K.faults sink.new) → IsAnswer result (is_refused (map string_bytes words.now) input)) }
 
@@ -54,6 +58,7 @@ fn answer<S: Source>(alloc: Global, mode: Mode, source: &mut S) -> Result<Vec<u8
         (Found (Some (mode_model mode)) (S.left source.old) (S.left source.new)) result }
     ensures advances { Advances (S.left source.old) (S.left source.new) }
     ensures later { S.faults source.old ≤ S.faults source.new }
+    ensures no_fault { result ≢ Err Stop.ReadFault → S.faults source.new ≡ S.faults source.old }
 {
     let Ok(mut reader) = LineReader::start(alloc) else {
         return Err(Stop::Memory);
@@ -67,7 +72,8 @@ fn answer<S: Source>(alloc: Global, mode: Mode, source: &mut S) -> Result<Vec<u8
 
 // Writes what is answered, and tells how that ended.
 fn write_answer<K: Sink>(sink: &mut K, answer: Result<Vec<u8>, Stop>) -> Status
-    ensures { Writes (K.written sink.old) (K.written sink.new) (K.faults sink.old) (K.faults sink.new) (answer_text answer) (answer_status answer) result }
+    ensures writes { Writes (K.written sink.old) (K.written sink.new) (K.faults sink.old) (K.faults sink.new) (answer_text answer) (answer_status answer) result }
+    ensures read_fault { answer ≡ Err Stop.ReadFault → result ≡ Status.ReadFault }
 {
     match answer {
         Ok(out) => write_last(sink, out.as_slice(), Status::Done),

@@ -1,5 +1,5 @@
 //! The mode `session`.
-ghost use Rattle.std.specs.Prelude.{◌≡◌, ◌≤◌, ◌<◌, [], Some, IsTrue, length, IfOk, OnOk, IfErr};
+ghost use Rattle.std.specs.Prelude.{◌≡◌, ◌≢◌, ◌≤◌, ◌<◌, [], Some, IsTrue, length, IfOk, OnOk, IfErr};
 ghost use Rattle.std.specs.Io.KnownBytes.{IsAtEnd};
 ghost use Rattle.lab_io.specs.Causes.{Rose};
 ghost use Rattle.lab_io.specs.Reading.{Takes};
@@ -31,6 +31,7 @@ pub fn session<S: Source>(
         (Found (Some mode.session) (S.left source.old) (S.left source.new)) result }
     ensures advances { Advances (S.left source.old) (S.left source.new) }
     ensures later { S.faults source.old ≤ S.faults source.new }
+    ensures no_fault { result ≢ Err Stop.ReadFault → S.faults source.new ≡ S.faults source.old }
 {
     let part = GamePart::read(alloc, reader, source)?;
     let played = played_game(alloc, part.text.as_slice(), part.done)?;
@@ -53,6 +54,7 @@ fn all_behind<S: Source>(
         (NotAll (Rose (S.faults source.old) (S.faults source.new)) reader.old.ahead (S.left source.old) (S.left source.new)) }
     ensures advances { Advances (S.left source.old) (S.left source.new) }
     ensures later { S.faults source.old ≤ S.faults source.new }
+    ensures no_fault { result ≢ Err Stop.ReadFault → S.faults source.new ≡ S.faults source.old }
 {
     reader.allow(COMMANDS_LIMIT);
     match reader.rest(source) {

@@ -61,6 +61,8 @@ pub fn read_line<S: Source>(
     ensures later { S.faults source.old ≤ S.faults source.new }
     ensures fault { result ≡ Err ReadStop.ReadFault →
         Rose (S.faults source.old) (S.faults source.new) }
+    ensures no_fault { result ≢ Err ReadStop.ReadFault →
+        S.faults source.new ≡ S.faults source.old }
 {
     loop {
         let Ok(ready) = ahead.fill(source) else {

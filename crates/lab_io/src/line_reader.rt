@@ -2,6 +2,7 @@
 
 ghost use Rattle.std.specs.Prelude.{
   ◌≡◌,
+  ◌≢◌,
   ◌≤◌,
   ◌+◌,
   ◌-◌,
@@ -170,6 +171,8 @@ impl LineReader {
         ensures later { S.faults source.old ≤ S.faults source.new }
         ensures fault { result ≡ Err ReadStop.ReadFault →
             Rose (S.faults source.old) (S.faults source.new) }
+        ensures no_fault { result ≢ Err ReadStop.ReadFault →
+            S.faults source.new ≡ S.faults source.old }
         ensures live { self.new.live ≡ is_ok result }
         ensures same_allowance { OnErr result (self.new.allowance ≡ self.old.allowance) }
         ensures no_line { OnErr result (self.new.line ≡ []) }
@@ -202,6 +205,8 @@ impl LineReader {
         ensures later { S.faults source.old ≤ S.faults source.new }
         ensures fault { result ≡ Err ReadStop.ReadFault →
             Rose (S.faults source.old) (S.faults source.new) }
+        ensures no_fault { result ≢ Err ReadStop.ReadFault →
+            S.faults source.new ≡ S.faults source.old }
         ensures live { self.new.live ≡ is_ok result }
         ensures same_allowance { OnErr result (self.new.allowance ≡ self.old.allowance) }
         ensures no_line { self.new.line ≡ [] }
@@ -235,6 +240,8 @@ fn read_to_end<S: Source>(
     ensures later { S.faults source.old ≤ S.faults source.new }
     ensures fault { result ≡ Err ReadStop.ReadFault →
         Rose (S.faults source.old) (S.faults source.new) }
+    ensures no_fault { result ≢ Err ReadStop.ReadFault →
+        S.faults source.new ≡ S.faults source.old }
 {
     let mut bytes = Vec::new(alloc);
     loop {

@@ -1,6 +1,6 @@
 //! Bytes that were read ahead of those given, in a buffer of fixed length.
 
-ghost use Rattle.std.specs.Prelude.{◌≡◌, ◌≤◌, [], drop, length, IfOk, OnErr};
+ghost use Rattle.std.specs.Prelude.{◌≡◌, ◌≤◌, [], drop, length, IfOk, OnOk, OnErr};
 ghost use Rattle.std.specs.Io.KnownBytes.{IsAtEnd};
 ghost use Rattle.lab_io.specs.Causes.{HasCause};
 ghost use Rattle.lab_io.specs.Reading.{Takes};
@@ -70,6 +70,7 @@ impl ReadAhead {
         ensures short { length self.new ≤ READ_AHEAD }
         ensures none { OnErr result (self.new ≡ []) }
         ensures cause { HasCause (S.faults source.old) (S.faults source.new) result }
+        ensures no_fault { OnOk result (S.faults source.new ≡ S.faults source.old) }
     {
         if self.from < self.to {
             return Ok(self.to - self.from);

@@ -3,7 +3,7 @@ use Rattle.lab_defs_report.specs.GameModes.{read_text}
 use Rattle.lab_defs_report.specs.Modes.{print}
 use Rattle.lab_world.specs.Games.{game_model}
 use Rattle.lab_cli.specs.Stops.{Denies, Found}
-use Rattle.lab_cli.proofs.Collecting.{advances_both, rose_earlier}
+use Rattle.lab_cli.proofs.Collecting.{advances_both, rose_earlier, no_fault_passed}
 use Rattle.lab_io.specs.Causes.{Rose}
 use Rattle.lab_cli.proofs.FoundLemmas.{print_refuses, says_passed, says_cut_off, says_game, says_extra, found_alone, print_alone, print_found}
 use Rattle.lab_cli.proofs.print.print.Goals as goal
@@ -41,3 +41,7 @@ returns-in-Ok-clause-advances g c =
 pub returns-in-Err-clause-advances : goal.returns-in-Err-clause-advances
 returns-in-Err-clause-advances g c =
     advances_both (g.S.Source.left c.args.source.now) (g.S.Source.left c.read.new.source) (g.S.Source.left c.check_end.new.source) c.in_ok-part.ensures.advances c.check_end.ensures.advances
+
+pub returns-in_err-check_end-clause-no_fault : goal.returns-in_err-check_end-clause-no_fault
+returns-in_err-check_end-clause-no_fault g c =
+    λ other. c.in_err-check_end.ensures.no_fault (no_fault_passed c.in_err-check_end.field-0.0 c.from_residual-in_err-check_end.result c.from_residual-in_err-check_end.ensures other) ∙ c.in_ok-part.ensures.no_fault (λ e. cc)

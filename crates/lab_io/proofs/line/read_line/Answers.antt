@@ -23,6 +23,6 @@ pub loop-ready-preserved : goal.loop-ready-preserved
 loop-ready-preserved g c = record {
   within = grind (arith, common_steps);
   whole = c.in_ok-count.ensures.line;
-  later = grind (arith, common_steps);
+  no_fault = grind (arith, common_steps);
   given = rw (c.skip-in-loop-ready.ensures, c.in_ok-count.ensures.items, c.bytes.ensures.bytes) (Takes-more c.in_ok-count.count (Takes-ahead c.loop-ready.invariant.given c.in-Ok.ensures.bytes));
 }

@@ -1,5 +1,5 @@
--- What was given stands in `line`, within its limit and the allowance, and the count did not fall.
-use Rattle.std.proofs.Common.{◌≤◌, ◌-◌, vec_len}
+-- What was given stands in `line`, within its limit and the allowance, and the count of faults is as it was.
+use Rattle.std.proofs.Common.{◌≡◌, ◌≤◌, ◌-◌, vec_len}
 use Rattle.lab_io.specs.Reading.{Takes, IsLine}
 use Rattle.lab_io.proofs.line.read_line.Given as goal
 
@@ -7,7 +7,7 @@ abbrev pub invariant-loop-ready : goal.invariant-loop-ready
 invariant-loop-ready g l = record {
   within : vec_len l.line ≤ l.allowance;
   whole : IsLine l.line.items;
-  later : g.S.Source.faults l.fn.source ≤ g.S.Source.faults l.source;
+  no_fault : g.S.Source.faults l.source ≡ g.S.Source.faults l.fn.source;
   given : Takes l.fn.ahead (g.S.Source.left l.fn.source) l.ahead (g.S.Source.left l.source) l.line.items;
 }
 

@@ -27,6 +27,6 @@ loop-count-preserved g c =
     let items : c.extend_from_slice.new.self.items ≡ c.loop-count.bytes.items ++ c.fill.new.self = grind (arith, common_steps) in
     record {
       within = grind (arith, common_steps);
-      later = grind (arith, common_steps);
+      no_fault = grind (arith, common_steps);
       given = rw (c.skip.ensures, items) (Takes-rest c.in-Ok.count (Takes-ahead c.loop-count.invariant.given c.in-Ok.ensures.bytes) c.in-Ok.ensures.count);
     }

@@ -8,6 +8,6 @@ use Rattle.lab_io.proofs.write.write_whole.Goals as goal
 pub loop-at-preserved : goal.loop-at-preserved
 loop-at-preserved g c = record {
   within = grind (arith, common_steps);
-  later = grind (arith, common_steps);
+  no_fault = grind (arith, common_steps);
   front = Appends-more _ _ _ c.args.piece.now c.loop-at.at c.in_ok-at.field-0 c.loop-at.invariant.front (rw take_rest at c.in_ok-at.ensures.bytes);
 }

@@ -26,7 +26,7 @@ returns-in-Err-clause-stop g c =
     let had = collected_lines _ _ _ _ _ _ _ _ c.loop-text.invariant.collected c.loop-text.invariant.left c.in_ok-number.ensures in
     let left = lines_left _ _ _ _ _ c.loop-text.invariant.left c.in_ok-number.ensures in
     cut_by_stop _ _ _ _ _ _ _ _ _ _ had left c.in-Err.ensures.stop
-    (λ e. rose_earlier _ _ _ c.loop-text.invariant.later (c.in-Err.ensures.fault (ap Err e))) c.cut_off.ensures
+    (λ e. rose_earlier _ _ _ (omega (arith, c.loop-text.invariant.no_fault)) (c.in-Err.ensures.fault (ap Err e))) c.cut_off.ensures
 
 pub returns-then-eq-clause-part : goal.returns-then-eq-clause-part
 returns-then-eq-clause-part g c =
@@ -46,7 +46,7 @@ loop-text-preserved g c =
     record {
       live = c.in-Ok-Line.ensures.live;
       left = ap (λ t. c.next.new.self.allowance + length t) text ∙ left_behind _ _ _ _ (rw c.in-Ok-Line.field-0-is at c.in-Ok-Line.ensures.allowance) left;
-      later = omega (arith, c.loop-text.invariant.later, c.next.ensures.later);
+      no_fault = c.in-Ok-Line.ensures.no_fault (λ e. cc) ∙ c.loop-text.invariant.no_fault;
       collected = subst (λ t. Collected (g.S.Source.left c.args.source.now) c.next.new.self.ahead (g.S.Source.left c.next.new.source) t (c.loop-text.number + c.in_ok-number.field-0 + 1)) (sym text)
           (collected_more _ _ _ _ _ _ _ _ had (rw c.in-Ok-Line.field-0-is at c.in-Ok-Line.ensures.bytes) (rw c.in-Ok-Line.field-0-is at c.in-Ok-Line.ensures.line)
           (line_fits _ _ _ _ (rw c.in-Ok-Line.field-0-is at c.in-Ok-Line.ensures.allowance) left)

@@ -8,7 +8,7 @@ abbrev pub invariant-loop-text : goal.invariant-loop-text
 invariant-loop-text g l = record {
   live : IsTrue l.reader.live;
   left : l.reader.allowance + length l.text.items ≡ game_limit;
-  later : g.S.Source.faults l.fn.source ≤ g.S.Source.faults l.source;
+  no_fault : g.S.Source.faults l.source ≡ g.S.Source.faults l.fn.source;
   collected : Collected (g.S.Source.left l.fn.source) l.reader.ahead (g.S.Source.left l.source) l.text.items l.number;
 }
 
