@@ -1,6 +1,6 @@
 //! A list that holds one item without an allocation.
 
-ghost use Rattle.std.specs.Prelude.{◌≡◌, ◌==◌, ◌∷◌, [], length, IfOk, OnOk};
+ghost use Rattle.std.specs.Prelude.{◌≡◌, ◌==◌, ◌∷◌, [], length, IfOk, OnOk, OnErr};
 ghost use Rattle.std.specs.Mem.{FitsInMemory};
 
 use crate::Seq;
@@ -60,12 +60,14 @@ impl<T> Few<T> {
         }
     }
 
-    /// Takes the items out of a vector, which is then empty and keeps its room. One item takes no memory.
+    /// Takes the items out of a vector, which is then empty and keeps its room. One item takes no memory. Where none is left,
+    /// they stay in it.
     pub fn take_from(alloc: Global, items: &mut Vec<T>) -> Result<Self, AllocError>
     where
         T: Drop,
         ensures taken { IfOk result (λ f. f ≡ items.old.items) }
         ensures left { OnOk result (items.new.items ≡ []) }
+        ensures kept { OnErr result (items.new.items ≡ items.old.items) }
     {
         if items.len() == 1 {
             if let Some(item) = items.pop() {

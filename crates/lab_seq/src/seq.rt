@@ -1,6 +1,6 @@
 //! A vector that contracts see as a list.
 
-ghost use Rattle.std.specs.Prelude.{◌≡◌, ◌==◌, [], length, IfOk, OnOk};
+ghost use Rattle.std.specs.Prelude.{◌≡◌, ◌==◌, [], length, IfOk, OnOk, OnErr};
 
 use std::alloc::{AllocError, Global};
 use std::marker::Model;
@@ -37,12 +37,13 @@ impl<T> Seq<T> {
         Seq { items }
     }
 
-    /// Takes the items out of a vector, which is then empty and keeps its room.
+    /// Takes the items out of a vector, which is then empty and keeps its room. Where no memory is left, they stay in it.
     pub fn take_from(alloc: Global, items: &mut Vec<T>) -> Result<Self, AllocError>
     where
         T: Drop,
         ensures taken { IfOk result (λ s. s ≡ items.old.items) }
         ensures left { OnOk result (items.new.items ≡ []) }
+        ensures kept { OnErr result (items.new.items ≡ items.old.items) }
     {
         let mut taken = Vec::with_capacity(alloc, items.len())?;
         taken.append(items)?;
