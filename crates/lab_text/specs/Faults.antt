@@ -3,6 +3,8 @@ use Rattle.std.specs.Prelude.{Option, Some, None}
 use Rattle.lab_defs_text.specs.Faults as fault
 use Rattle.lab_lex.specs.Faults.{lex_model}
 use Rattle.lab_world.specs.Drafts.{assemble_fault}
+use Rattle.lab_world.specs.declared.parts.AssembleFault.{AssembleFault}
+use Rattle.lab_world.specs.declared.parts.AssembleFault.TheVariants as assemble
 use Rattle.lab_text.specs.declared.line_fault.LineFault.{LineFault}
 use Rattle.lab_text.specs.declared.line_fault.LineFault.TheVariants as line
 use Rattle.lab_text.specs.declared.fault.TextFault.{TextFault}
@@ -25,3 +27,8 @@ line_fault (line.Lex f) = Some (fault.lexical (lex_model f))
 line_fault (line.BadWord place) = Some (fault.bad_word_at place)
 line_fault (line.Twice place) = Some (fault.twice_at place)
 line_fault line.Memory = None
+
+-- the fault of a text that a fault of its parts is: want of memory is that of the text, and no fault of the parts
+abbrev pub fault_of_parts : AssembleFault → TextFault
+fault_of_parts assemble.Memory = text.Memory
+fault_of_parts f = text.Assemble f

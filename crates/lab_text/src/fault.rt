@@ -17,17 +17,17 @@ pub enum TextFault {
     BadWord { line: u32, place: u32 },
     /// A name is declared again.
     Twice { line: u32, place: u32 },
-    /// Each line may stand where it does, but together they make no game.
+    /// Each line may stand where it does, but together they make no game. Want of memory is told by `Memory` alone.
     Assemble(AssembleFault),
     /// No memory was left.
     Memory,
 }
 
 impl From<NoMemory> for TextFault {
-    ghost use Rattle.std.specs.Prelude.{◌≡◌, None};
-    ghost use Rattle.lab_text.specs.Faults.{text_fault};
+    ghost use Rattle.std.specs.Prelude.{◌≡◌};
+    ghost use Rattle.lab_text.specs.declared.fault.TextFault.TheVariants.{Memory};
 
-    ghost from_gives = { λ _ e. text_fault e ≡ None };
+    ghost from_gives = { λ _ e. e ≡ Memory };
 
     fn from(_fault: NoMemory) -> TextFault {
         TextFault::Memory
@@ -36,10 +36,9 @@ impl From<NoMemory> for TextFault {
 
 impl From<AssembleFault> for TextFault {
     ghost use Rattle.std.specs.Prelude.{◌≡◌};
-    ghost use Rattle.lab_world.specs.Drafts.{assemble_fault};
-    ghost use Rattle.lab_text.specs.Faults.{text_fault};
+    ghost use Rattle.lab_text.specs.Faults.{fault_of_parts};
 
-    ghost from_gives = { λ fault e. text_fault e ≡ assemble_fault fault };
+    ghost from_gives = { λ fault e. e ≡ fault_of_parts fault };
 
     fn from(fault: AssembleFault) -> TextFault {
         if fault == AssembleFault::Memory {

@@ -1,5 +1,5 @@
 //! A game read from its text.
-ghost use Rattle.std.specs.Prelude.{◌≡◌, ◌<◌, ◌^◌, length, IfOk, OnOk, Ok};
+ghost use Rattle.std.specs.Prelude.{◌≡◌, ◌≢◌, ◌<◌, ◌^◌, length, IfOk, IfErr, OnOk, Ok};
 ghost use Rattle.std.specs.Option.{option_map};
 ghost use Rattle.lab_defs_text.specs.Agreement.{Agrees};
 ghost use Rattle.lab_defs_text.specs.Drafts.{parts_of, empty};
@@ -19,15 +19,17 @@ use crate::line_kind::LineKind;
 use crate::next_line::take_line;
 use crate::text_lines::first_line;
 use lab_seq::Seq;
-use lab_world::{Game, Parts};
+use lab_world::{AssembleFault, Game, Parts};
 use std::alloc::Global;
 
 /// The game whose text the bytes are, or the first fault: that of the first line that may not stand where it does, and where there is none, that of the whole.
+/// Want of memory is `TextFault::Memory`, wherever it was met.
 pub fn read_game(alloc: Global, bytes: &[u8]) -> Result<Game, TextFault>
     requires { length bytes.now < 2 ^ 32 }
     ensures exact { Agrees game_model text_fault result (game_of bytes.now) }
     ensures text { IfOk result (λ game. IsText bytes.now (game_model game)) }
     ensures only { (g : GameModel) → IsText bytes.now g → Agrees game_model text_fault result (Ok g) }
+    ensures memory { IfErr result (λ fault. fault ≢ TextFault.Assemble AssembleFault.Memory) }
 {
     let draft = parts_in(alloc, bytes)?;
     Ok(Game::assemble_named(alloc, all_parts(draft))?)
@@ -38,6 +40,7 @@ fn parts_in(alloc: Global, bytes: &[u8]) -> Result<Draft<'_>, TextFault>
     requires { length bytes.now < 2 ^ 32 }
     ensures parts { Agrees draft_is text_fault result (parts_of bytes.now) }
     ensures named { IfOk result (λ x. length x.names ≡ length x.places.items) }
+    ensures memory { IfErr result (λ fault. fault ≢ TextFault.Assemble AssembleFault.Memory) }
 {
     let mut draft = new_draft(alloc)?;
     read_lines(alloc, &mut draft, bytes)?;
@@ -51,6 +54,7 @@ fn read_lines<'a>(alloc: Global, draft: &mut Draft<'a>, bytes: &'a [u8]) -> Resu
     requires counts { Counts 1 LineKind.Start draft.old }
     ensures parts { Agrees (λ _. draft_is draft.new) text_fault result (parts_of bytes.now) }
     ensures named { OnOk result (length draft.new.names ≡ length draft.new.places.items) }
+    ensures memory { IfErr result (λ fault. fault ≢ TextFault.Assemble AssembleFault.Memory) }
 {
     let mut last = LineKind::Start;
     let mut line = 1;
@@ -78,7 +82,8 @@ fn read_lines<'a>(alloc: Global, draft: &mut Draft<'a>, bytes: &'a [u8]) -> Resu
 
 // The fault of a line as one of the text.
 fn on_line(line: u32, fault: LineFault) -> TextFault
-    ensures { text_fault result ≡ option_map (in_line line) (line_fault fault) }
+    ensures fault { text_fault result ≡ option_map (in_line line) (line_fault fault) }
+    ensures memory { result ≢ TextFault.Assemble AssembleFault.Memory }
 {
     match fault {
         LineFault::Lex(fault) => TextFault::Lex { line, fault },

@@ -6,7 +6,7 @@ use Rattle.lab_text.proofs.read.read_lines.Goals as goal
 
 pub returns-in-Err-clause-parts : goal.returns-in-Err-clause-parts
 returns-in-Err-clause-parts c =
-    rw c.on_line.ensures (fails_all c.loop-bytes.line (kind_is c.loop-bytes.last) (draft_is c.loop-bytes.draft) c.in-Some.bytes.now c.loop-bytes.rest.now c.in-Some.after.now c.args.bytes.now
+    rw c.on_line.ensures.fault (fails_all c.loop-bytes.line (kind_is c.loop-bytes.last) (draft_is c.loop-bytes.draft) c.in-Some.bytes.now c.loop-bytes.rest.now c.in-Some.after.now c.args.bytes.now
     (line_fault c.in-Err.fault) c.loop-bytes.invariant.keeps c.in-Some.ensures.lines c.in-Err.ensures.line)
 
 pub returns-then-not-is_empty-clause-parts : goal.returns-then-not-is_empty-clause-parts
