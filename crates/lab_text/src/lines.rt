@@ -1,5 +1,5 @@
 //! Lines of a text, from their words.
-ghost use Rattle.std.specs.Prelude.{◌≡◌, ◌<◌, ◌++◌, ◌∷◌, [], length, map, nat_lt, IsTrue, OnOk};
+ghost use Rattle.std.specs.Prelude.{◌≡◌, ◌<◌, ◌++◌, ◌∷◌, [], length, map, take, nat_lt, IsTrue, OnOk, OnErr};
 ghost use Rattle.std.specs.List.{list_all};
 ghost use Rattle.lab_defs_text.specs.Lines.{joined};
 ghost use Rattle.lab_defs_text.specs.Texts.{name_of};
@@ -11,10 +11,25 @@ use lab_lex::NameTable;
 use lab_world::ActionId;
 use std::alloc::AllocError;
 
-/// Adds a line: a keyword, and words behind it.
+/// Adds a line: a keyword, and words after it. Where no memory is left, the text is as it was.
 pub fn push_line(text: &mut Vec<u8>, keyword: &[u8], words: &[&[u8]]) -> Result<(), AllocError>
-    ensures { OnOk result (text.new.items ≡ text.old.items
+    ensures added { OnOk result (text.new.items ≡ text.old.items
         ++ (joined (keyword.now ∷ map (λ w. w.now) words.now) ++ 10 ∷ [])) }
+    ensures kept { OnErr result (text.new.items ≡ text.old.items) }
+{
+    let len = text.len();
+    let pushed = push_pieces(text, keyword, words);
+    if pushed.is_err() {
+        text.truncate(len);
+    }
+    pushed
+}
+
+// Likewise, but where no memory is left, a part of the line may be there.
+fn push_pieces(text: &mut Vec<u8>, keyword: &[u8], words: &[&[u8]]) -> Result<(), AllocError>
+    ensures added { OnOk result (text.new.items ≡ text.old.items
+        ++ (joined (keyword.now ∷ map (λ w. w.now) words.now) ++ 10 ∷ [])) }
+    ensures kept { OnErr result (take (length text.old.items) text.new.items ≡ text.old.items) }
 {
     text.extend_from_slice(keyword)?;
     push_words(text, words)?;
@@ -56,9 +71,10 @@ pub fn action_at<'a>(actions: &'a NameTable, ids: &[ActionId], place: usize) -> 
     name_with(actions, ids[place].0)
 }
 
-// Adds words, a space before each.
+// Adds words, a space before each; on an error, some of them.
 fn push_words(text: &mut Vec<u8>, words: &[&[u8]]) -> Result<(), AllocError>
-    ensures { OnOk result (text.new.items ≡ text.old.items ++ spaced (map (λ w. w.now) words.now)) }
+    ensures added { OnOk result (text.new.items ≡ text.old.items ++ spaced (map (λ w. w.now) words.now)) }
+    ensures kept { OnErr result (take (length text.old.items) text.new.items ≡ text.old.items) }
 {
     for word in words {
         push_word(text, word)?;
@@ -77,9 +93,10 @@ fn push_names(text: &mut Vec<u8>, actions: &NameTable, ids: &[ActionId]) -> Resu
     Ok(())
 }
 
-// Adds a space and a word.
+// Adds a space and a word; on an error, the space at most.
 fn push_word(text: &mut Vec<u8>, word: &[u8]) -> Result<(), AllocError>
-    ensures { OnOk result (text.new.items ≡ text.old.items ++ 32 ∷ word.now) }
+    ensures added { OnOk result (text.new.items ≡ text.old.items ++ 32 ∷ word.now) }
+    ensures kept { OnErr result (take (length text.old.items) text.new.items ≡ text.old.items) }
 {
     text.push(b' ')?;
     text.extend_from_slice(word)

@@ -1,5 +1,5 @@
 //! The text of a whole game.
-ghost use Rattle.std.specs.Prelude.{◌≡◌, ◌++◌, ◌∷◌, [], IfOk, OnOk};
+ghost use Rattle.std.specs.Prelude.{◌≡◌, ◌++◌, ◌∷◌, [], IfOk, OnOk, OnErr};
 ghost use Rattle.lab_defs_text.specs.Numbers.{numeral};
 ghost use Rattle.lab_defs_text.specs.Lines.{joined, recall_word, text_of, head_line, grid_line, horizon_line, memory_line, root_line, done_line};
 ghost use Rattle.lab_defs_text.specs.Texts.{name_of, token_lines, canonical};
@@ -27,12 +27,14 @@ pub fn write_game(alloc: Global, game: &Game) -> Result<Vec<u8>, NoMemory>
     Ok(text)
 }
 
-/// Likewise, in place of what stands in a vector, whose room is used again.
+/// Likewise, in place of what is in a vector, whose room is used again. Where no memory is left, the vector is empty.
 pub fn write_game_over(text: &mut Vec<u8>, game: &Game) -> Result<(), NoMemory>
-    ensures { OnOk result (text.new.items ≡ canonical (game_model game.now)) }
+    ensures written { OnOk result (text.new.items ≡ canonical (game_model game.now)) }
+    ensures emptied { OnErr result (text.new.items ≡ []) }
 {
     text.clear();
     let Ok(()) = push_game(text, game) else {
+        text.clear();
         return Err(NoMemory);
     };
     Ok(())

@@ -27,7 +27,7 @@ returns-in_err-check_end-clause-says g c =
 pub returns-in-Ok-clause-says : goal.returns-in-Ok-clause-says
 returns-in-Ok-clause-says g c =
     found_alone print (g.S.Source.left c.args.source.now) c.read.new.reader.ahead (g.S.Source.left c.read.new.source) c.check_end.new.reader.ahead (g.S.Source.left c.check_end.new.source) c.in_ok-part.part.text.items c.in_ok-part.part.done c.write_game_over.new.text.items
-    c.in_ok-part.ensures.part (print_found c.in_ok-part.part.text.items c.in_ok-part.part.done (game_model c.in_ok-game.game) c.write_game_over.new.text.items (ap read_text (sym c.as_slice.ensures.value) ∙ c.in_ok-game.ensures) c.in-Ok.ensures)
+    c.in_ok-part.ensures.part (print_found c.in_ok-part.part.text.items c.in_ok-part.part.done (game_model c.in_ok-game.game) c.write_game_over.new.text.items (ap read_text (sym c.as_slice.ensures.value) ∙ c.in_ok-game.ensures) c.in-Ok.ensures.written)
     c.in_ok-check_end.ensures.takes c.in_ok-check_end.ensures.end
 
 pub returns-in_err-check_end-clause-advances : goal.returns-in_err-check_end-clause-advances

@@ -15,4 +15,4 @@ returns c =
     let small : unsigned_abs c.args.payoff < 10 ^ 40 = omega (arith, ints, fits) in
     let digits : c.as_bytes.result.now ≡ signed_numeral c.args.payoff =
     c.as_bytes.ensures.value ∙ c.format.ensures.text ∙ ap signed_decimal (to_z-of_z w32 c.args.payoff fits) ∙ sym (signed_numeral_is c.args.payoff small) in
-    subst (λ ds. OnOk c.push_line.result (c.push_line.new.text.items ≡ c.args.text.now.items ++ (joined (codes "end" ∷ c.args.name.now ∷ ds ∷ []) ++ 10 ∷ []))) digits c.push_line.ensures
+    subst (λ ds. OnOk c.push_line.result (c.push_line.new.text.items ≡ c.args.text.now.items ++ (joined (codes "end" ∷ c.args.name.now ∷ ds ∷ []) ++ 10 ∷ []))) digits c.push_line.ensures.added

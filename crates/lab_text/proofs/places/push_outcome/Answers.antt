@@ -16,4 +16,4 @@ returns c =
     let digits : c.as_bytes.result.now ≡ numeral c.args.outcome.now.weight =
     c.as_bytes.ensures.value ∙ c.format.ensures.text ∙ sym (numeral_is c.args.outcome.now.weight small) in
     subst (λ ws. OnOk c.push_line.result (c.push_line.new.text.items ≡ c.args.text.now.items ++ (joined ws ++ 10 ∷ [])))
-    (six_words (codes "to") _ _ _ _ _ _ _ _ _ _ digits c.name_with.ensures c.name_with-2.ensures c.name_with-3.ensures c.name_with-4.ensures) c.push_line.ensures
+    (six_words (codes "to") _ _ _ _ _ _ _ _ _ _ digits c.name_with.ensures c.name_with-2.ensures c.name_with-3.ensures c.name_with-4.ensures) c.push_line.ensures.added

@@ -8,4 +8,4 @@ pub returns : goal.returns
 returns c =
     let small : c.args.number < 10 ^ 40 = omega (arith, c.ranges.number.fits) in
     let digits : c.as_bytes.result.now ≡ numeral c.args.number = c.as_bytes.ensures.value ∙ c.format.ensures.text ∙ sym (numeral_is c.args.number small) in
-    subst (λ ds. OnOk c.push_line.result (c.push_line.new.text.items ≡ c.args.text.now.items ++ (joined (c.args.keyword.now ∷ ds ∷ []) ++ 10 ∷ []))) digits c.push_line.ensures
+    subst (λ ds. OnOk c.push_line.result (c.push_line.new.text.items ≡ c.args.text.now.items ++ (joined (c.args.keyword.now ∷ ds ∷ []) ++ 10 ∷ []))) digits c.push_line.ensures.added
