@@ -1,9 +1,9 @@
 -- Parts that are assembled are those of the game, its rows in some order.
-use Rattle.std.proofs.Common.{◌≡◌, ℕ, zero, suc, ◌+◌, ◌*◌, ◌/◌, ◌%◌, ◌<◌, Bool, true, false, cond, not, eqb, List, [], ◌∷◌, ◌++◌, length, map, Option, Some, None, Result, Ok, Err, refl, sym, ap, subst, ◌∙◌, append_assoc, arith, inl, inr}
+use Rattle.std.proofs.Common.{◌≡◌, ℕ, zero, suc, ◌+◌, ◌*◌, ◌/◌, ◌%◌, ◌<◌, ◌≤◌, Bool, true, false, cond, not, eqb, List, [], ◌∷◌, ◌++◌, length, map, Option, Some, None, Result, Ok, Err, refl, sym, ap, subst, ◌∙◌, append_assoc, arith, inl, inr}
 use Rattle.std.specs.Prelude.{◌&&◌, ◌==◌, nat_lt, slice_index_or}
 use Rattle.std.specs.List.{list_all, range_with_len, position_from}
 use Rattle.std.specs.Str.{bytes_eq}
-use Rattle.std.proofs.Math.Nat.{mul_comm}
+use Rattle.std.proofs.Math.Nat.{mul_comm, le-mul_of_pos_right}
 use Rattle.std.proofs.lemmas.Bool.{and_parts, and_from, not_from_false, cases_Bool, not-true, ltb-true, lt-ltb, or_parts, or_left, or_right, eq-eqb}
 use Rattle.std.proofs.lemmas.Nat.{mul-add-lt, div-mul-add, mod-mul-add}
 use Rattle.std.proofs.lemmas.Iterator.Adapters.{position_from-zero}
@@ -13,11 +13,12 @@ use Rattle.lab_defs_text.specs.Steps.{◌>>=◌, each}
 use Rattle.lab_defs_text.specs.Words.{Bytes, are_names}
 use Rattle.lab_defs_text.specs.Games.{GameModel, Place, a_world, an_end, World, Outcome}
 use Rattle.lab_defs_text.specs.Lines.{Line, world_line, one_line, two_line, row_line, to_line, root_line, done_line}
-use Rattle.lab_defs_text.specs.Texts.{name_of, outcome_lines, row_lines, place_lines, places_lines, game_lines, is_within, outcome_ok, row_ok, place_ok, game_ok, one_of, numbers_apart, IsOrderOf, AreOrders}
+use Rattle.lab_defs_text.specs.Texts.{name_of, outcome_lines, row_lines, place_lines, places_lines, game_lines, is_within, outcome_ok, row_ok, place_ok, is_world, game_ok, one_of, numbers_apart, IsOrderOf, AreOrders}
 use Rattle.lab_defs_text.specs.Reading.{done_kind}
 use Rattle.lab_defs_text.specs.Drafts.{Draft, PartPlace, part_world, part_end, PartWorld, PartRow, PartOutcome, place_name}
 use Rattle.lab_defs_text.specs.Assembly.{or_fault, name_number, known, known_outcome, KnownRow, KnownPlace, known_world, known_end, known_row, known_place, PlacedRow, taken, unless_taken, action_of, place_rows, PlacedPlace, placed_world, placed_end, placed, row_numbered, row_at, ordered, is_world_at, assembled}
 use Rattle.lab_defs_text.proofs.StepLemmas.{bind_ok, passed, ok_is, ok_carries, ok_carried, some_is}
+use Rattle.lab_defs_text.proofs.GameLemmas.{names_fine, world_fine, outcome_fine}
 use Rattle.lab_defs_text.proofs.SplitLemmas.{bytes_eq_is}
 use Rattle.lab_defs_text.specs.Parts.{part_ok, part_row_ok, part_outcome_ok}
 use Rattle.lab_defs_text.proofs.SoFarLemmas.{outcomes_lines, rows_lines, part_lines, parts_lines, apart_names, front, so_far, IsDraft}
@@ -418,9 +419,19 @@ game_with_fine d places r i same fine world =
     (and_from (length places == length names) rest1 (eq-eqb (length places) (length names) same)
     (and_from (list_all (place_ok made) places) (is_world_at r places) fine world)))))
 
--- parts that are assembled have the lines of the game
-pub game_is : (d : Draft) (g : GameModel) → IsDraft done_kind d → assembled d ≡ Ok g → GameIs d g
-game_is d g i e =
+-- the steps that make a game of parts whose places are in order
+record PartsMade (d : Draft) (g : GameModel) : Type 0 where
+  pub places : List Place
+  pub root : ℕ
+  pub orders : List (List ℕ)
+  pub is_game : ◌≡◌ {A = Result GameModel TextFault} (Ok (game_with d places root)) (Ok g)
+  pub world : is_world_at root places ≡ true
+  pub name : IsKnown (map place_name d.places) d.root root
+  pub parts : PlacesAre (game_with d places root) d.places places orders
+
+-- parts that are assembled went through these steps
+parts_made : (d : Draft) (g : GameModel) → list_all part_ok d.places ≡ true → assembled d ≡ Ok g → PartsMade d g
+parts_made d g ok e =
     let names = map place_name d.places in
     let a = bind_ok (each (known_place names d.tokens) d.places) (λ ks. known names d.root_line 2 d.root >>= λ r. each placed ks >>= λ ps. each ordered ps >>= λ places.
     cond (is_world_at r places) (Ok (game_with d places r)) (Err (no_root d.root_line))) g e in
@@ -431,11 +442,67 @@ game_is d g i e =
     let f = bind_ok (each ordered c.0) (λ places. cond (is_world_at b.0 places) (Ok (game_with d places b.0)) (Err (no_root d.root_line))) g c.2 in
     let made : GameModel = game_with d f.0 b.0 in
     let t = passed (is_world_at b.0 f.0) (Ok made) (no_root d.root_line) g f.2 in
-    let r = known_is names d.root_line 2 d.root b.0 b.1 in
-    let p = places_are made d.places a.0 c.0 f.0 i.0.places a.1 c.1 f.1 in
-    ok_carries (λ (x : GameModel). GameIs d x) made g t.1 (record {
-      fine = game_with_fine d f.0 b.0 i p.same p.fine t.0;
+    record {
+      places = f.0;
+      root = b.0;
       orders = orders_of c.0;
-      all_orders = p.all_orders;
-      lines = root_same (front d) (parts_lines d.places) (places_lines made names f.0 (orders_of c.0)) d.root (name_of names b.0) p.lines r.name;
+      is_game = t.1;
+      world = t.0;
+      name = known_is names d.root_line 2 d.root b.0 b.1;
+      parts = places_are made d.places a.0 c.0 f.0 ok a.1 c.1 f.1;
+    }
+
+-- parts that are assembled have the lines of the game
+pub game_is : (d : Draft) (g : GameModel) → IsDraft done_kind d → assembled d ≡ Ok g → GameIs d g
+game_is d g i e =
+    let names = map place_name d.places in
+    let m = parts_made d g i.0.places e in
+    let made : GameModel = game_with d m.places m.root in
+    ok_carries (λ (x : GameModel). GameIs d x) made g m.is_game (record {
+      fine = game_with_fine d m.places m.root i m.parts.same m.parts.fine m.world;
+      orders = m.orders;
+      all_orders = m.parts.all_orders;
+      lines = root_same (front d) (parts_lines d.places) (places_lines made names m.places m.orders) d.root (name_of names m.root) m.parts.lines m.name.name;
     })
+
+-- ---- parts that make a game have tokens and places
+
+-- a row that passes the test has a token
+row_token : (g : GameModel) (os : List Outcome) → row_ok g os ≡ true → 0 < length g.tokens
+row_token g [] e = absurd cc
+row_token g (o ∷ os) e =
+    let a = and_parts (nat_lt 0 (length (o ∷ os))) (list_all (outcome_ok g) (o ∷ os)) e in
+    let f = outcome_fine g o (and_parts (outcome_ok g o) (list_all (outcome_ok g) os) a.1).0 in
+    omega (arith, f.own1)
+
+-- likewise one or more rows
+rows_token : (g : GameModel) (rows : List (List Outcome)) → list_all (row_ok g) rows ≡ true → 0 < length rows → 0 < length g.tokens
+rows_token g [] e h = absurd (omega (arith, h))
+rows_token g (r ∷ rs) e h = row_token g r (and_parts (row_ok g r) (list_all (row_ok g) rs) e).0
+
+-- likewise a world
+world_token : (g : GameModel) (p : Place) → place_ok g p ≡ true → is_world p ≡ true → 0 < length g.tokens
+world_token g (a_world w) e t =
+    let f = world_fine g w e in
+    let one = names_fine w.one f.one in
+    let two = names_fine w.two f.two in
+    let some : length w.one ≤ length w.one * length w.two = le-mul_of_pos_right (length w.one) two.some in
+    rows_token g w.rows f.rows (omega (arith, some, f.count, one.some))
+world_token g (an_end z) e t = absurd cc
+
+-- likewise places of which one is a world
+places_token : (g : GameModel) (ps : List Place) (n : ℕ) → list_all (place_ok g) ps ≡ true → is_world_at n ps ≡ true → 0 < length g.tokens
+places_token g [] n e t = absurd cc
+places_token g (p ∷ ps) zero e t = world_token g p (and_parts (place_ok g p) (list_all (place_ok g) ps) e).0 t
+places_token g (p ∷ ps) (suc n) e t = places_token g ps n (and_parts (place_ok g p) (list_all (place_ok g) ps) e).1 t
+
+-- parts that make a game
+pub record SomeParts (d : Draft) : Type 0 where
+  pub tokens : 0 < length d.tokens
+  pub places : 0 < length (map place_name d.places)
+
+-- parts that are assembled have a token and a place
+pub some_parts : (d : Draft) (g : GameModel) → list_all part_ok d.places ≡ true → assembled d ≡ Ok g → SomeParts d
+some_parts d g ok e =
+    let m = parts_made d g ok e in
+    record { tokens = places_token (game_with d m.places m.root) m.places m.root m.parts.fine m.world; places = omega (arith, m.name.below) }

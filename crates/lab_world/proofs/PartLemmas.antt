@@ -1,26 +1,26 @@
 -- What parts that are in order give for the game that is made of them.
-use Rattle.std.proofs.Common.{◌≡◌, ℕ, Bool, true, false, cond, string_bytes, Option, List, [], ◌∷◌, length, map, Result, Ok, Err, refl, sym, ap, ◌∙◌, arith}
+use Rattle.std.proofs.Common.{◌≡◌, ◌<◌, ℕ, Bool, true, false, cond, string_bytes, Option, List, [], ◌∷◌, length, map, Result, Ok, Err, refl, sym, ap, subst, ◌∙◌, arith}
 use Rattle.std.specs.Prelude.{◌&&◌, nat_lt, String}
 use Rattle.std.specs.List.{list_all}
 use Rattle.std.specs.Borrow.{Bor}
 use Rattle.std.specs.Global.{Global}
 use Rattle.std.specs.Cmp.Lexicographic.{pointwise}
 use Rattle.std.specs.Str.{bytes_eq}
-use Rattle.std.proofs.lemmas.Bool.{and_parts, and_from}
+use Rattle.std.proofs.lemmas.Bool.{and_parts, and_from, lt-ltb}
 use Rattle.std.proofs.lemmas.List.{length-map}
 use Rattle.lab_defs_text.specs.Agreement.{FaultAgrees}
 use Rattle.lab_defs_text.specs.Faults.{TextFault, no_root}
 use Rattle.lab_defs_text.specs.Steps.{◌>>=◌, each}
-use Rattle.lab_defs_text.specs.Words.{Bytes, are_names}
+use Rattle.lab_defs_text.specs.Words.{Bytes}
 use Rattle.lab_defs_text.specs.Games as model
 use Rattle.lab_defs_text.specs.Texts.{is_within, game_ok}
 use Rattle.lab_defs_text.specs.Drafts as draft
 use Rattle.lab_defs_text.specs.Reading.{done_kind}
-use Rattle.lab_defs_text.specs.Parts.{part_ok, parts_ok}
+use Rattle.lab_defs_text.specs.Parts.{part_ok}
 use Rattle.lab_defs_text.specs.Assembly.{KnownPlace, known, known_place, placed, ordered, is_world_at, assembled}
 use Rattle.lab_defs_text.proofs.SplitLemmas.{bytes_eq_refl}
 use Rattle.lab_defs_text.proofs.SoFarLemmas.{apart_names, IsDraft}
-use Rattle.lab_defs_text.proofs.WholeLemmas.{game_is}
+use Rattle.lab_defs_text.proofs.WholeLemmas.{game_is, some_parts}
 use Rattle.lab_lex.specs.Names.{name_bytes}
 use Rattle.lab_world.specs.declared.parts.PartPlace.{PartPlace}
 use Rattle.lab_world.specs.declared.parts.PartPlace.TheVariants as part
@@ -28,7 +28,7 @@ use Rattle.lab_world.specs.declared.parts.Parts.{Parts}
 use Rattle.lab_world.specs.declared.place.Place.{Place}
 use Rattle.lab_world.specs.declared.place.Recall.{Recall}
 use Rattle.lab_world.specs.declared.place.WorldId.{WorldId}
-use Rattle.lab_world.specs.Drafts.{part_place_by, part_place_of, part_places_by, part_places_of, draft_of, named_draft_of}
+use Rattle.lab_world.specs.Drafts.{part_place_by, part_place_of, part_places_by, part_places_of, draft_of, named_draft_of, are_apart, may_assemble}
 use Rattle.lab_world.specs.Models.{place_model, parts_model}
 use Rattle.lab_world.specs.Wholes.{all_action_names, place_fits, is_whole_game}
 use Rattle.lab_world.specs.Stages.{Rooted, rooted}
@@ -155,28 +155,43 @@ assembled_fault p o e h = fault_first o (rooted p.names p.tokens p.root_line (na
 
 -- ---- what is made is whole
 
--- parts in order are those of a text
-pub parts_are_draft : (d : draft.Draft) → parts_ok d ≡ true → IsDraft done_kind d
-parts_are_draft d e =
+-- what the test of parts says
+pub record PartsFit (d : draft.Draft) : Type 0 where
+  pub grid : is_within 1 4096 d.grid ≡ true
+  pub horizon : is_within 1 32 d.horizon ≡ true
+  pub tokens : are_apart d.tokens ≡ true
+  pub names : are_apart (map draft.place_name d.places) ≡ true
+  pub places : list_all part_ok d.places ≡ true
+
+-- parts that pass the test are such
+pub parts_that_fit : (d : draft.Draft) → may_assemble d ≡ true → PartsFit d
+parts_that_fit d e =
     let names = map draft.place_name d.places in
-    let a = and_parts (is_within 1 4096 d.grid) (is_within 1 32 d.horizon && (are_names d.tokens && (are_names names && list_all part_ok d.places))) e in
-    let b = and_parts (is_within 1 32 d.horizon) (are_names d.tokens && (are_names names && list_all part_ok d.places)) a.1 in
-    let c = and_parts (are_names d.tokens) (are_names names && list_all part_ok d.places) b.1 in
-    let f = and_parts (are_names names) (list_all part_ok d.places) c.1 in
-    let n = and_parts (nat_lt 0 (length names)) (apart_names names) f.0 in
-    (record { front_fine = record { grid_fine = a.0; horizon_fine = b.0; tokens_fine = c.0 }; names = n.1; places = f.1 }, sym (ap (λ k. nat_lt 0 k) (length-map d.places draft.place_name)) ∙ n.0)
+    let a = and_parts (is_within 1 4096 d.grid) (is_within 1 32 d.horizon && (are_apart d.tokens && (are_apart names && list_all part_ok d.places))) e in
+    let b = and_parts (is_within 1 32 d.horizon) (are_apart d.tokens && (are_apart names && list_all part_ok d.places)) a.1 in
+    let c = and_parts (are_apart d.tokens) (are_apart names && list_all part_ok d.places) b.1 in
+    let f = and_parts (are_apart names) (list_all part_ok d.places) c.1 in
+    record { grid = a.0; horizon = b.0; tokens = c.0; names = f.0; places = f.1 }
+
+-- parts that make a game are those of a text
+parts_are_draft : (d : draft.Draft) (g : model.GameModel) → may_assemble d ≡ true → assembled d ≡ Ok g → IsDraft done_kind d
+parts_are_draft d g e made =
+    let p = parts_that_fit d e in
+    let s = some_parts d g p.places made in
+    let tokens = and_from (nat_lt 0 (length d.tokens)) (apart_names d.tokens) (lt-ltb 0 (length d.tokens) s.tokens) p.tokens in
+    (record { front_fine = record { grid_fine = p.grid; horizon_fine = p.horizon; tokens_fine = tokens }; names = p.names; places = p.places }, lt-ltb 0 (length d.places) (subst (λ n. 0 < n) (length-map d.places draft.place_name) s.places))
 
 -- a list of names is itself, by the test too
 names_same : (xs : List Bytes) → pointwise bytes_eq xs xs ≡ true
 names_same [] = refl
 names_same (x ∷ xs) = and_from (bytes_eq x x) (pointwise bytes_eq xs xs) (bytes_eq_refl x) (names_same xs)
 
--- a game that parts in order are assembled to is whole
-pub whole_is : (d : draft.Draft) (grid horizon : ℕ) (recall : Recall) (tokens names actions : List Bytes) (places : List Place) (root : WorldId) → parts_ok d ≡ true
+-- a game that parts are assembled to is whole
+pub whole_is : (d : draft.Draft) (grid horizon : ℕ) (recall : Recall) (tokens names actions : List Bytes) (places : List Place) (root : WorldId) → may_assemble d ≡ true
     → assembled d ≡ Ok (parts_model grid horizon recall tokens names actions places root) → list_all (place_fits (length actions)) places ≡ true → actions ≡ all_action_names [] (map (place_model actions) places)
     → is_whole_game grid horizon recall tokens names actions places root ≡ true
 whole_is d grid horizon recall tokens names actions places root ok made fits listed =
     let g = parts_model grid horizon recall tokens names actions places root in
     let same = ap (pointwise bytes_eq actions) (sym listed) ∙ names_same actions in
-    and_from (game_ok g) (list_all (place_fits (length actions)) places && pointwise bytes_eq actions (all_action_names [] g.places)) (game_is d g (parts_are_draft d ok) made).fine
+    and_from (game_ok g) (list_all (place_fits (length actions)) places && pointwise bytes_eq actions (all_action_names [] g.places)) (game_is d g (parts_are_draft d g ok made) made).fine
     (and_from (list_all (place_fits (length actions)) places) (pointwise bytes_eq actions (all_action_names [] g.places)) fits same)

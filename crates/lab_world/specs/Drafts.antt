@@ -1,8 +1,11 @@
 -- The parts of a game as the definitions have them, and the faults of parts.
-use Rattle.std.specs.Prelude.{List, [], ◌∷◌, map, String, string_bytes, Option, Some, None}
+use Rattle.std.specs.Prelude.{List, [], ◌∷◌, Bool, ◌&&◌, map, String, string_bytes, Option, Some, None}
+use Rattle.std.specs.List.{list_all}
 use Rattle.std.specs.Borrow.{Bor}
 use Rattle.std.specs.Global.{Global}
-use Rattle.lab_defs_text.specs.Words.{Bytes}
+use Rattle.lab_defs_text.specs.Words.{Bytes, is_name, apart_after}
+use Rattle.lab_defs_text.specs.Texts.{is_within}
+use Rattle.lab_defs_text.specs.Parts.{part_ok}
 use Rattle.lab_defs_text.specs.Drafts as draft
 use Rattle.lab_defs_text.specs.Faults as fault
 use Rattle.lab_lex.specs.Names.{name_bytes}
@@ -65,6 +68,17 @@ part_places_of = part_places_by name_bytes
 
 abbrev pub named_draft_of : Parts (Bor Bytes) → draft.Draft
 named_draft_of = draft_by name_bytes
+
+-- ---- what may be assembled
+
+-- names that are well formed, none of them twice; there may be none
+abbrev pub are_apart : List Bytes → Bool
+are_apart ns = list_all is_name ns && apart_after [] ns
+
+-- numbers within their limits, names of tokens and of places, and places in order; there may be no token and no place
+abbrev pub may_assemble : draft.Draft → Bool
+may_assemble d =
+    is_within 1 4096 d.grid && (is_within 1 32 d.horizon && (are_apart d.tokens && (are_apart (map draft.place_name d.places) && list_all part_ok d.places)))
 
 -- the fault of a text that a fault of its parts is
 abbrev pub assemble_fault : AssembleFault → Option fault.TextFault

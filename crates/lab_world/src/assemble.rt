@@ -2,8 +2,7 @@
 ghost use Rattle.std.specs.Prelude.{◌≡◌, true, length};
 ghost use Rattle.lab_defs_text.specs.Agreement.{Agrees};
 ghost use Rattle.lab_defs_text.specs.Assembly.{assembled};
-ghost use Rattle.lab_defs_text.specs.Parts.{parts_ok};
-ghost use Rattle.lab_world.specs.Drafts.{draft_of, named_draft_of, assemble_fault};
+ghost use Rattle.lab_world.specs.Drafts.{draft_of, named_draft_of, may_assemble, assemble_fault};
 ghost use Rattle.lab_world.specs.Games.{game_model};
 
 use super::game::Game;
@@ -17,9 +16,10 @@ use std::alloc::Global;
 
 impl Game {
     /// Makes a game of its parts: names become numbers, and the rows of each world stand in the order of its joint actions.
+    /// Parts with no token or no place are answered as all others are: they make no game.
     pub fn assemble(alloc: Global, parts: Parts) -> Result<Game, AssembleFault>
         requires named { length parts.names ≡ length parts.places }
-        requires fit { parts_ok (draft_of parts) ≡ true }
+        requires fit { may_assemble (draft_of parts) ≡ true }
         ensures { Agrees game_model assemble_fault result (assembled (draft_of parts)) }
     {
         let Parts {
@@ -51,7 +51,7 @@ impl Game {
     /// Likewise of parts whose names stand in a text, so that no name is copied but into the game.
     pub fn assemble_named(alloc: Global, parts: Parts<&str>) -> Result<Game, AssembleFault>
         requires named { length parts.names ≡ length parts.places }
-        requires fit { parts_ok (named_draft_of parts) ≡ true }
+        requires fit { may_assemble (named_draft_of parts) ≡ true }
         ensures { Agrees game_model assemble_fault result (assembled (named_draft_of parts.entry)) }
     {
         let Parts {

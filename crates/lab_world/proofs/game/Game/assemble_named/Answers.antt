@@ -15,14 +15,14 @@ use Rattle.lab_world.specs.Games.{game_model}
 use Rattle.lab_world.specs.Models.{place_model}
 use Rattle.lab_world.specs.Wholes.{all_action_names, place_fits}
 use Rattle.lab_world.specs.Stages.{Rooted, rooted_of}
-use Rattle.lab_world.proofs.PartLemmas.{named, parts_are_draft, rooted_same, assembled_game, assembled_fault, whole_is}
+use Rattle.lab_world.proofs.PartLemmas.{named, parts_that_fit, rooted_same, assembled_game, assembled_fault, whole_is}
 use Rattle.lab_world.proofs.game.Game.assemble_named.Goals as goal
 
 pub rooted_places-requires : goal.rooted_places-requires
 rooted_places-requires c =
     let p = c.args.parts in
     subst (λ (ps : List (PartPlace (Bor Bytes))). list_all part_ok (map (part_place_of []) ps) ≡ true) (sym c.into_vec.ensures)
-    (sym (named [] [] p.names p.places c.requires.named).ok_same ∙ (parts_are_draft (named_draft_of p) c.requires.fit).0.places)
+    (sym (named [] [] p.names p.places c.requires.named).ok_same ∙ (parts_that_fit (named_draft_of p) c.requires.fit).places)
 
 pub returns-in_err-numbered : goal.returns-in_err-numbered
 returns-in_err-numbered c =
