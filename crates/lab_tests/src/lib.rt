@@ -8,11 +8,15 @@ mod checks;
 #[cfg(test)]
 mod dice;
 #[cfg(test)]
+mod histories;
+#[cfg(test)]
 mod kuhn;
 #[cfg(test)]
 mod leduc;
 #[cfg(test)]
 mod prints;
+#[cfg(test)]
+mod readers;
 #[cfg(test)]
 mod sessions;
 #[cfg(test)]
