@@ -9,8 +9,8 @@ use Rattle.lab_io.specs.Causes.{Rose}
 use Rattle.lab_io.specs.Reading.{Reader, Takes, StoppedAfter, LineStop, IsLine, IsEnd}
 use Rattle.lab_io.specs.declared.line_reader.ReadStop.{ReadStop}
 use Rattle.lab_io.specs.declared.line_reader.ReadStop.TheVariants as read
-use Rattle.lab_io.proofs.Fronts.{Consumes-append}
-use Rattle.lab_io.proofs.Givings.{Takes-append, Takes-all}
+use Rattle.lab_io.proofs.CallerLemmas.{Consumes-append}
+use Rattle.lab_io.proofs.CallerLemmas.{Takes-append, Takes-all}
 use Rattle.lab_defs_text.specs.Words.{Bytes, lines}
 use Rattle.lab_defs_report.specs.Refusals.{Refusal, refused}
 use Rattle.lab_defs_report.specs.Cuts.{game_limit, cut_at, cut_refused, cut_from}

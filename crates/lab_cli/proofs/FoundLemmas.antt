@@ -10,7 +10,7 @@ use Rattle.std.specs.Result.{IsErr, IsErrAnd}
 use lib.Chars.{codes}
 use Rattle.lab_io.specs.Reading.{Takes, StoppedAfter, LineStop, RestStop, IsEnd}
 use Rattle.lab_io.specs.declared.line_reader.ReadStop.TheVariants as read
-use Rattle.lab_io.proofs.Givings.{Takes-append, Takes-all}
+use Rattle.lab_io.proofs.CallerLemmas.{Takes-append, Takes-all}
 use Rattle.lab_defs_text.specs.Words.{Bytes, lines}
 use Rattle.lab_defs_text.specs.Games.{GameModel}
 use Rattle.lab_defs_text.specs.Texts.{canonical}

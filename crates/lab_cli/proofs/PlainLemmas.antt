@@ -11,7 +11,7 @@ use lib.Chars.{codes}
 use Rattle.memchr.specs.Find.{IsFirstByte, is_byte}
 use Rattle.lab_io.specs.Reading.{no_feed}
 use Rattle.lab_io.specs.declared.line_reader.TheConstants.{READ_AHEAD}
-use Rattle.lab_io.proofs.Feeds.{IsBefore, IsBefore-from, before_is}
+use Rattle.lab_io.proofs.CallerLemmas.{IsBefore, IsBefore-from, before_is}
 use Rattle.lab_defs_text.specs.Words.{Bytes, lines}
 use Rattle.lab_defs_report.specs.Cuts.{game_limit, line_limit, cut_from}
 use Rattle.lab_cli.specs.PlainLines.{ended_lines, is_plain, ArePlainLines}

@@ -1,4 +1,5 @@
-pub mod Feeds
-pub mod Fronts
-pub mod Givings
-pub mod Stops
+pub mod CallerLemmas
+mod Feeds
+mod Fronts
+mod Givings
+mod Stops

@@ -1,7 +1,7 @@
 //! A source over any reader of std, and a sink over any writer. Neither tells its bytes, but what the
 //! reader or writer itself says of them holds.
 
-ghost use Rattle.std.specs.Prelude.{◌≡◌, ◌<◌, ◌+◌, ◌-◌, ◌^◌, None, min, length, IfOk, OnOk, OnErr};
+ghost use Rattle.std.specs.Prelude.{◌≡◌, ◌<◌, ◌+◌, ◌-◌, ◌^◌, None, Some, Ok, min, length, IfOk, IsErr, IfSome, IfNone, OnOk, OnErr};
 ghost use Rattle.std.specs.Io.{ReadsAtMost, WritesAtMost};
 ghost use Rattle.std.specs.Io.KnownBytes.{ReadConsumes, WriteAppends};
 ghost use Rattle.lab_io.specs.Causes.{HasCause};
@@ -51,13 +51,8 @@ impl<R: Read + Drop> Source for StdSource<R> {
         ensures one_fault { OnErr result
             (self.new.faults ≡ min (self.old.faults + 1) (2 ^ 64 - 1)) }
     {
-        match self.inner.read(buf) {
-            Ok(count) => Ok(count),
-            Err(_) => {
-                self.faults = self.faults.saturating_add(1);
-                Err(Failed)
-            }
-        }
+        let count = self.inner.read(buf).ok();
+        counted(count, &mut self.faults)
     }
 }
 
@@ -104,12 +99,35 @@ impl<W: Write + Drop> Sink for StdSink<W> {
         ensures one_fault { OnErr result
             (self.new.faults ≡ min (self.old.faults + 1) (2 ^ 64 - 1)) }
     {
-        match self.inner.write(piece) {
-            Ok(count) if count > 0 || piece.is_empty() => Ok(count),
-            _ => {
-                self.faults = self.faults.saturating_add(1);
-                Err(Failed)
-            }
+        let count = self.inner.write(piece).ok();
+        counted(taken_of(piece, count), &mut self.faults)
+    }
+}
+
+// What a write took of a piece; none where it failed, or took nothing of a piece with bytes.
+fn taken_of(piece: &[u8], count: Option<usize>) -> Option<usize>
+    ensures nothing { count ≡ Some 0 → 0 < length piece.now → result ≡ None }
+    ensures count { (count ≡ Some 0 → length piece.now ≡ 0) → result ≡ count }
+{
+    if !piece.is_empty() && count == Some(0) {
+        None
+    } else {
+        count
+    }
+}
+
+// The count of a call that did not fail; a call that did is one fault more.
+fn counted(count: Option<usize>, faults: &mut u64) -> Result<usize, Failed>
+    ensures taken { IfSome count (λ n. (result ≡ Ok n) × (faults.new ≡ faults.old)) }
+    ensures failed { IfNone count
+        (IsErr result × (faults.new ≡ min (faults.old + 1) (2 ^ 64 - 1))) }
+    ensures cause { HasCause faults.old faults.new result }
+{
+    match count {
+        Some(count) => Ok(count),
+        None => {
+            *faults = faults.saturating_add(1);
+            Err(Failed)
         }
     }
 }
