@@ -1,16 +1,10 @@
 -- Commands and their faults as the definitions have them.
-use Rattle.lab_defs_value.specs.Allowances as rule
 use Rattle.lab_defs_report.specs.Commands as model
 use Rattle.lab_commands.specs.declared.command.Command.{Command}
 use Rattle.lab_commands.specs.declared.command.Command.TheVariants as command
-use Rattle.lab_commands.specs.declared.command.RuleName.{RuleName}
-use Rattle.lab_commands.specs.declared.command.RuleName.TheVariants as name
+use Rattle.lab_rule.specs.Names.{rule_model}
 
-abbrev pub rule_model : RuleName → rule.Rule
-rule_model name.Cfrd = rule.cfrd
-rule_model name.Margin = rule.margin
-rule_model name.Reach = rule.reach
-
+-- the command that a value is
 abbrev pub command_model : Command → model.Command
 command_model command.ExpectUniform = model.expect_uniform
 command_model command.Expect = model.expect

@@ -6,12 +6,13 @@ mod kinds;
 mod numbers;
 mod read;
 
-pub use command::{Command, RuleName};
+pub use command::Command;
 pub use read::command_at;
 
 #[cfg(test)]
 mod tests {
     use super::*;
+    use lab_rule::RuleName;
     use lab_text::LineFault;
     use std::test::Fail;
 

@@ -4,11 +4,11 @@ ghost use Rattle.std.specs.Int.RustNames.{unsigned_abs};
 ghost use Rattle.lab_defs_text.specs.Agreement.{Agrees};
 ghost use Rattle.lab_defs_text.specs.Reading.{number_at as number_in};
 ghost use Rattle.lab_defs_report.specs.Commands.{small_at, smalls_at, draw_at, draws_at, rule_at as rule_in};
-ghost use Rattle.lab_commands.specs.Commands.{rule_model};
+ghost use Rattle.lab_rule.specs.Names.{rule_model};
 ghost use Rattle.lab_text.specs.Drafts.{pieces};
 ghost use Rattle.lab_text.specs.Faults.{line_fault};
 
-use crate::command::RuleName;
+use lab_rule::RuleName;
 use lab_seq::Seq;
 use lab_text::{LineFault, whole_in};
 use std::alloc::Global;
