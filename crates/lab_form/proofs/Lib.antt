@@ -1,1 +1,1 @@
-pub mod PathLemmas
+pub mod CallerLemmas

@@ -1,4 +1,4 @@
--- Chains of parents, step by step.
+-- What callers may cite: chains of parents step by step, and sets of the program as the definitions have them.
 use Rattle.std.proofs.Common.{◌≡◌, ℕ, zero, suc, ◌<◌, ◌≤◌, List, [], ◌∷◌, ◌++◌, take, length, get_or, Option, Some, None, refl, sym, ap, ◌∙◌, subst, arith}
 use Rattle.std.specs.Option.{option_map}
 use Rattle.std.proofs.lemmas.List.{get_or-map, length-append, length-map, length-take-le}
