@@ -1,1 +1,4 @@
 pub mod Forms
+pub mod Chains
+pub mod Decisions
+pub mod Columns
