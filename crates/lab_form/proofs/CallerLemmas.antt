@@ -1,5 +1,5 @@
 -- What callers may cite: chains of parents step by step, and sets of the program as the definitions have them.
-use Rattle.std.proofs.Common.{◌≡◌, ℕ, zero, suc, ◌<◌, ◌≤◌, List, [], ◌∷◌, ◌++◌, take, length, get_or, Option, Some, None, refl, sym, ap, ◌∙◌, subst, arith}
+use Rattle.std.proofs.Common.{◌≡◌, ℕ, zero, suc, ◌+◌, ◌<◌, ◌≤◌, Bool, false, cond, List, [], ◌∷◌, ◌++◌, take, length, get_or, Option, Some, None, refl, sym, ap, ◌∙◌, subst, arith, append-nil, append_assoc}
 use Rattle.std.specs.Option.{option_map}
 use Rattle.std.proofs.lemmas.List.{get_or-map, length-append, length-map, length-take-le}
 use Rattle.std.proofs.lemmas.Simd.{map-map}
@@ -7,6 +7,7 @@ use Rattle.lab_defs_game.specs.Paths.{SetAction}
 use Rattle.lab_defs_game.specs.Forms as model
 use Rattle.lab_form.specs.declared.items.SetId.{SetId}
 use Rattle.lab_form.specs.declared.items.FormSet.{FormSet}
+use Rattle.lab_form.specs.Chains.{last_to_first_from, last_to_first}
 use Rattle.lab_form.specs.Forms.{IsStepBelow, AreSets, actions_in, taken_model, set_model, sets_model}
 
 -- ---- sets of the definitions
@@ -86,3 +87,31 @@ parents_below sets ok i l =
     at : i < length sets → (o : Option (SetId × ℕ)) → IsStepBelow (take i sets) o → Below i (option_map taken_model o)
     at there None b = tt
     at there (Some t) b = omega (arith, b.0, length-take-le i sets (omega (arith, there)))
+
+-- ---- numbers from the last to the first
+
+-- with one more item, its number comes first where it passes
+pub last_more : {A : Type 0} (p : A → Bool) (xs : List A) (y : A) → last_to_first p (xs ++ y ∷ []) ≡ cond (p y) (length xs ∷ []) [] ++ last_to_first p xs
+last_more p xs y =
+    let e : 0 + length xs ≡ length xs = omega arith in
+    from 0 xs ∙ ap (λ m. cond (p y) (m ∷ []) [] ++ last_to_first p xs) e
+  where
+    from : (n : ℕ) (zs : List _) → last_to_first_from p n (zs ++ y ∷ []) ≡ cond (p y) ((n + length zs) ∷ []) [] ++ last_to_first_from p n zs
+    from n [] =
+        let e : n ≡ n + 0 = omega arith in
+        ap (λ m. cond (p y) (m ∷ []) []) e ∙ sym (append-nil (cond (p y) ((n + 0) ∷ []) []))
+    from n (z ∷ zs) =
+        let own : List ℕ = cond (p z) (n ∷ []) [] in
+        ap (λ ns. ns ++ own) (from (suc n) zs)
+        ∙ append_assoc (cond (p y) ((suc n + length zs) ∷ []) []) (last_to_first_from p (suc n) zs) own
+        ∙ ap (λ m. cond (p y) (m ∷ []) [] ++ (last_to_first_from p (suc n) zs ++ own)) (omega arith)
+
+-- where no item passes there is no number
+pub last_none : {A : Type 0} (p : A → Bool) (xs : List A) → ((i : ℕ) (d : A) → i < length xs → p (get_or xs i d) ≡ false) → last_to_first p xs ≡ []
+last_none p xs fails = from 0 xs fails
+  where
+    from : (n : ℕ) (zs : List _) → ((i : ℕ) (d : _) → i < length zs → p (get_or zs i d) ≡ false) → last_to_first_from p n zs ≡ []
+    from n [] fails = refl
+    from n (z ∷ zs) fails =
+        ap (λ b. last_to_first_from p (suc n) zs ++ cond b (n ∷ []) []) (fails 0 z (omega arith))
+        ∙ ap (λ ns. ns ++ []) (from (suc n) zs (λ i d l. fails (suc i) d (omega (arith, l))))

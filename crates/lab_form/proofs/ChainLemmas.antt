@@ -1,8 +1,14 @@
 -- Numbers along links, and lists of numbers from the last to the first.
-use Rattle.std.proofs.Common.{◌≡◌, ℕ, zero, suc, ◌+◌, ◌<◌, ◌≤◌, ◌⊎◌, inl, inr, List, [], ◌∷◌, ◌++◌, map, length, get_or, set, refl, sym, ap, ◌∙◌, subst, arith}
-use Rattle.std.proofs.lemmas.Bool.{cases_lt}
-use Rattle.std.proofs.lemmas.List.{get_or-map, get_or_append_left, get_or_push, get_or_default, length-append, length_push, map-set}
-use Rattle.lab_form.specs.Columns.{chained_within, chained, AreLinks, AreHeads, ChainsValue, with_number}
+use Rattle.std.proofs.Common.{◌≡◌, ℕ, zero, suc, ◌+◌, ◌<◌, ◌≤◌, ◌⊎◌, inl, inr, Bool, cond, eqb, List, [], ◌∷◌, ◌++◌, map, length, get_or, set, Option, Some, None, refl, sym, ap, ◌∙◌, subst, arith}
+use Rattle.std.proofs.lemmas.Bool.{cases_lt, cases_eq, eq-eqb, ne_eqb}
+use Rattle.std.proofs.Math.Dec.{eqb-suc-zero, eqb-zero-suc, eqb-suc-suc}
+use Rattle.std.proofs.lemmas.List.{get_or-map, get_or-set_same, get_or-set_other, length-set, get_or_append_left, get_or_push, get_or_default, length-append, length_push, map-set}
+use Rattle.lab_form.specs.declared.items.SetId.{SetId}
+use Rattle.lab_form.specs.declared.items.FormSet.{FormSet}
+use Rattle.lab_form.specs.Forms.{IsStepBelow}
+use Rattle.lab_form.specs.Chains.{last_to_first_from, last_to_first, is_at, IsSetThere}
+use Rattle.lab_form.specs.Columns.{chained_within, chained, AreLinks, AreHeads, ChainsValue, with_number, with_place, place_of, place_of_step, AreChains}
+use Rattle.lab_form.proofs.CallerLemmas.{last_more, last_none}
 
 -- numbers along links are the same however many there may be, where they are enough
 chained_enough : (links : List ℕ) → AreLinks links → (m n next : ℕ) → next ≤ length links → next ≤ m → next ≤ n → chained_within m links next ≡ chained_within n links next
@@ -74,3 +80,84 @@ added_value heads links more place x n sets items ok w read long next =
     let count : length more ≡ suc (length links) = ap length next ∙ length_push links x ∙ omega arith in
     ap (λ (ls : List (List ℕ)). record { lists = ls; count = length more; set_room = sets; item_room = items }) lists
     ∙ ap (λ (k : ℕ). record { lists = set (map (chained links) heads) place (length links ∷ get_or (map (chained links) heads) place []); count = k; set_room = sets; item_room = items }) count
+
+-- ---- items at their places
+
+-- tests that agree let the same numbers pass
+pub last_same : {A : Type 0} (p q : A → Bool) (xs : List A) → ((x : A) → p x ≡ q x) → last_to_first p xs ≡ last_to_first q xs
+last_same p q xs same = from 0 xs
+  where
+    from : (n : ℕ) (ys : List _) → last_to_first_from p n ys ≡ last_to_first_from q n ys
+    from n [] = refl
+    from n (y ∷ ys) = ap (λ ns. ns ++ cond (p y) (n ∷ []) []) (from (suc n) ys) ∙ ap (λ b. last_to_first_from q (suc n) ys ++ cond b (n ∷ []) []) (same y)
+
+-- a step is at a set where their places are one
+pub at_place : (set : Option SetId) (step : Option (SetId × ℕ)) → eqb (place_of_step step) (place_of set) ≡ is_at set step
+at_place None None = refl
+at_place None (Some t) = eqb-suc-zero t.0.0
+at_place (Some s) None = eqb-zero-suc s.0
+at_place (Some s) (Some t) = eqb-suc-suc t.0.0 s.0
+
+-- a step at a set that is there has a place
+pub step_placed : (sets : List FormSet) (step : Option (SetId × ℕ)) → IsStepBelow sets step → place_of_step step ≤ length sets
+step_placed sets None b = omega arith
+step_placed sets (Some t) b = omega (arith, b.0)
+
+-- so has a set that is there
+pub set_placed : (n : ℕ) (set : Option SetId) → IsSetThere n set → place_of set ≤ n
+set_placed n None b = omega arith
+set_placed n (Some s) b = omega (arith, b)
+
+-- what is chained at the place of a set are the items whose steps are at it
+pub chain_at : {A : Type 0} (n : ℕ) (step : A → Option (SetId × ℕ)) (items : List A) (c : ChainsValue) (set : Option SetId) → AreChains n step items c → IsSetThere n set
+    → get_or c.lists (place_of set) [] ≡ last_to_first (λ x. is_at set (step x)) items
+chain_at n step items c set ok there =
+    ok.each (place_of set) (set_placed n set there)
+    ∙ last_same (λ x. eqb (place_of_step (step x)) (place_of set)) (λ x. is_at set (step x)) items (λ x. at_place set (step x))
+
+-- chains with the next item
+pub chains_item : {A : Type 0} (n : ℕ) (step : A → Option (SetId × ℕ)) (items : List A) (c : ChainsValue) (x : A) → AreChains n step items c → place_of_step (step x) ≤ n
+    → AreChains n step (items ++ x ∷ []) (with_number c (place_of_step (step x)))
+chains_item {A = A} n step items c x ok w = record {
+  places = length-set c.lists (place_of_step (step x)) (c.count ∷ get_or c.lists (place_of_step (step x)) []) ∙ ok.places;
+  count = ap suc ok.count ∙ omega (arith, length-append items (x ∷ []));
+  each = λ k l. at k l (cases_eq (place_of_step (step x)) k);
+}
+  where
+    place : ℕ
+    place = place_of_step (step x)
+
+    there : place < length c.lists
+    there = omega (arith, w, ok.places)
+
+    is : ℕ → A → Bool
+    is k y = eqb (place_of_step (step y)) k
+
+    at : (k : ℕ) → k ≤ n → (place ≡ k) ⊎ (place ≡ k → ⊥) → get_or (set c.lists place (c.count ∷ get_or c.lists place [])) k [] ≡ last_to_first (is k) (items ++ x ∷ [])
+    at k l (inl e) =
+        subst (λ j. get_or (set c.lists place (c.count ∷ get_or c.lists place [])) j [] ≡ last_to_first (is j) (items ++ x ∷ [])) e
+        (get_or-set_same c.lists place (c.count ∷ get_or c.lists place []) [] there
+        ∙ ap (λ m. m ∷ get_or c.lists place []) ok.count ∙ ap (λ ns. length items ∷ ns) (ok.each place w)
+        ∙ sym (last_more (is place) items x ∙ ap (λ b. cond b (length items ∷ []) [] ++ last_to_first (is place) items) (eq-eqb place place refl)))
+    at k l (inr e) =
+        get_or-set_other c.lists place k (c.count ∷ get_or c.lists place []) [] (λ q. e (sym q))
+        ∙ ok.each k l
+        ∙ sym (last_more (is k) items x ∙ ap (λ b. cond b (length items ∷ []) [] ++ last_to_first (is k) items) (ne_eqb place k e))
+
+-- chains with one more place, where no item's is
+pub chains_place : {A : Type 0} (n : ℕ) (step : A → Option (SetId × ℕ)) (items : List A) (c : ChainsValue) → AreChains n step items c
+    → ((i : ℕ) (d : A) → i < length items → place_of_step (step (get_or items i d)) ≤ n) → AreChains (suc n) step items (with_place c)
+chains_place {A = A} n step items c ok low = record {
+  places = length-append c.lists ([] ∷ []) ∙ omega (arith, ok.places);
+  count = ok.count;
+  each = λ k l. at k l (cases_lt k (suc n));
+}
+  where
+    is : ℕ → A → Bool
+    is k y = eqb (place_of_step (step y)) k
+
+    at : (k : ℕ) → k ≤ suc n → (k < suc n) ⊎ (suc n ≤ k) → get_or (c.lists ++ [] ∷ []) k [] ≡ last_to_first (is k) items
+    at k l (inl w) = get_or_append_left c.lists ([] ∷ []) [] k (omega (arith, w, ok.places)) ∙ ok.each k (omega (arith, w))
+    at k l (inr w) =
+        get_or_push c.lists [] [] k (omega (arith, w, l, ok.places))
+        ∙ sym (last_none (is k) items (λ i d j. ne_eqb (place_of_step (step (get_or items i d))) k (λ e. absurd (omega (arith, low i d j, e, w)))))

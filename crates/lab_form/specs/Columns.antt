@@ -2,9 +2,10 @@
 use Rattle.std.specs.Prelude.{ℕ, zero, suc, ◌==◌, ◌≡◌, ◌<◌, ◌≤◌, List, [], ◌∷◌, ◌++◌, length, slice_index, slice_index_or, slice_set, Option, Some, None}
 use Rattle.lab_form.specs.declared.items.SetId.{SetId}
 use Rattle.lab_form.specs.declared.items.FormSet.{FormSet}
-use Rattle.lab_form.specs.Forms.{IsStepBelow, AreSets}
+use Rattle.lab_form.specs.declared.items.FormRow.{FormRow}
+use Rattle.lab_form.specs.Forms.{FormValue, AreSets, IsFormValue, last_of}
 use Rattle.lab_form.specs.Chains.{last_to_first}
-use Rattle.lab_form.specs.Decisions.{decisions_above}
+use Rattle.lab_form.specs.Decisions.{decisions_above, row_decisions}
 
 -- ---- links
 
@@ -69,3 +70,47 @@ pub record AreChains {A : Type 0} (sets : ℕ) (step : A → Option (SetId × �
   pub places : length c.lists ≡ suc sets
   pub count : c.count ≡ length items
   pub each : (k : ℕ) → k ≤ sets → slice_index_or c.lists k [] ≡ last_to_first (λ x. place_of_step (step x) == k) items
+
+-- ---- the columns of a seat
+
+-- the sets of a seat, its chains of rows, and for how many sets there is room
+pub record SeatValue : Type 0 where
+  pub sets : List FormSet
+  pub rows : ChainsValue
+  pub set_room : ℕ
+
+-- no set and no row
+abbrev pub empty_seat : (sets rows : ℕ) → SeatValue
+empty_seat sets rows = record { sets = []; rows = empty_chains sets rows; set_room = sets }
+
+-- with one more set
+abbrev pub seat_with_set : SeatValue → FormSet → SeatValue
+seat_with_set v s = record { sets = v.sets ++ s ∷ []; rows = with_place v.rows; set_room = v.set_room }
+
+-- with one more row, whose last step of the seat is this
+abbrev pub seat_with_row : SeatValue → Option (SetId × ℕ) → SeatValue
+seat_with_row v step = record { sets = v.sets; rows = with_number v.rows (place_of_step step); set_room = v.set_room }
+
+-- the decisions above the sets of a seat, the chains of their children, and a place for the rows at each
+pub record AreColumns (sets : List FormSet) (above : List ℕ) (children rows : ChainsValue) (set_room : ℕ) : Type 0 where
+  pub order : AreSets sets
+  pub room : length sets ≤ set_room
+  pub decisions : above ≡ decisions_above sets
+  pub chains : AreChains (length sets) (λ (s : FormSet). s.parent) sets children
+  pub places : length rows.lists ≡ suc (length sets)
+  pub child_places : children.set_room ≡ set_room
+  pub child_room : children.item_room ≡ set_room
+  pub row_places : rows.set_room ≡ set_room
+
+-- ---- the columns of a form
+
+-- what the two seats keep, and the decisions of the rows, are those of the form
+pub record AreKept (f : FormValue) (one two : SeatValue) (last : List (List ℕ)) : Type 0 where
+  pub value : IsFormValue f
+  pub rows1 : AreChains (length f.sets1) (λ (r : FormRow). last_of r 1) f.rows one.rows
+  pub rows2 : AreChains (length f.sets2) (λ (r : FormRow). last_of r 2) f.rows two.rows
+  pub decisions : last ≡ row_decisions f.sets1 f.sets2 f.rows
+  pub set_room1 : one.set_room ≡ f.set_room
+  pub set_room2 : two.set_room ≡ f.set_room
+  pub row_room1 : one.rows.item_room ≡ f.row_room
+  pub row_room2 : two.rows.item_room ≡ f.row_room

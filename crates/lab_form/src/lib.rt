@@ -6,6 +6,7 @@ mod decision;
 mod form;
 mod items;
 mod room;
+mod seat_sets;
 mod step_chains;
 
 pub use chain::Chain;

@@ -1,0 +1,21 @@
+use Rattle.std.proofs.Common.{◌≡◌, ◌<◌, ◌≤◌, length, ℕ, sym, ap, ◌∙◌, subst, arith}
+use Rattle.std.specs.Prelude.{vec_capacity}
+use Rattle.lab_form.specs.Forms.{IsNextSet}
+use Rattle.lab_form.specs.Decisions.{short_decision}
+use Rattle.lab_form.specs.Columns.{SeatValue, with_number, with_place}
+use Rattle.lab_form.proofs.ColumnLemmas.{columns_added}
+use Rattle.lab_form.proofs.seat_sets.SeatSets.add.Goals as goal
+
+pub invariant_of-self : goal.invariant_of-self
+invariant_of-self c =
+    let s = c.self.inside in
+    let set = c.args.set in
+    let old : s.sets.items ≡ c.args.self.now.sets = ap (λ (v : SeatValue). v.sets) c.self.view_is in
+    let room : length s.sets.items < s.set_room = subst (λ (v : SeatValue). length v.sets < v.set_room) (sym c.self.view_is) c.requires.room in
+    let next : IsNextSet s.sets.items set = subst (λ (v : SeatValue). IsNextSet v.sets set) (sym c.self.view_is) c.requires.next in
+    let columns = columns_added s.sets.items c.push-2.new.items.items s.above.items c.push.new.items.items s.children c.add_place.new.self s.rows c.add_place-2.new.self s.set_room c.last_decision-above.result set
+    c.self.invariant.0 room next (c.last_decision-above.ensures ∙ ap (λ ss. short_decision ss set.parent) (sym old))
+    c.push-2.ensures.items c.push.ensures.items (c.add_place.ensures ∙ ap with_place (c.add.ensures ∙ ap (with_number s.children) c.step_place.ensures)) c.add_place-2.ensures in
+    let sets : s.set_room ≤ vec_capacity c.push-2.new.items = omega (arith, c.self.invariant.1, c.push-2.ensures.room) in
+    let above : s.set_room ≤ vec_capacity c.push.new.items = omega (arith, c.self.invariant.2, c.push.ensures.room) in
+    (columns, sets, above)
