@@ -104,6 +104,10 @@ pub record AreColumns (sets : List FormSet) (above : List ℕ) (children rows : 
 
 -- ---- the columns of a form
 
+-- a form with what its seats keep, and its rows
+abbrev pub form_in : (one two : SeatValue) → List FormRow → (set_room row_room : ℕ) → FormValue
+form_in one two rows set_room row_room = record { sets1 = one.sets; sets2 = two.sets; rows = rows; set_room = set_room; row_room = row_room }
+
 -- what the two seats keep, and the decisions of the rows, are those of the form
 pub record AreKept (f : FormValue) (one two : SeatValue) (last : List (List ℕ)) : Type 0 where
   pub value : IsFormValue f

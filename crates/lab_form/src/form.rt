@@ -3,6 +3,7 @@
 ghost use Rattle.std.specs.Prelude.{◌≡◌, ◌⊎◌, ◌<◌, ◌-◌, length, IfOk};
 ghost use Rattle.lab_form.specs.Forms.{
   sets_of,
+  last_of,
   empty_form,
   with_set,
   with_row,
@@ -11,9 +12,14 @@ ghost use Rattle.lab_form.specs.Forms.{
   AreSets,
   AreRows,
 };
+ghost use Rattle.lab_form.specs.Chains.{children_of, rows_of, IsSetThere};
+ghost use Rattle.lab_form.specs.Decisions.{decisions_above, row_decisions};
+ghost use Rattle.lab_form.specs.Columns.{AreChains};
+ghost use Rattle.lab_form.specs.declared.items.FormRow.{FormRow};
 
 use super::room::push;
-use crate::{FormRow, FormSet};
+use super::seat_sets::SeatSets;
+use crate::{Chain, FormRow, FormSet, SetId};
 use std::alloc::Global;
 use std::marker::Model;
 
@@ -24,23 +30,25 @@ pub struct NoMemory;
 /// The information sets of each seat, parents before children, and the rows, with room for so many of each.
 #[derive(Drop)]
 pub struct Form {
-    one: Vec<FormSet>,
-    two: Vec<FormSet>,
+    one: SeatSets,
+    two: SeatSets,
     rows: Vec<FormRow>,
+    decisions: Vec<[u32; 2]>,
     set_room: u32,
     row_room: u32,
 }
 
 impl Model for Form {
     ghost use Rattle.std.specs.Prelude.{◌≤◌, vec_capacity};
-    ghost use Rattle.lab_form.specs.Forms.{FormValue, IsFormValue};
+    ghost use Rattle.lab_form.specs.Forms.{FormValue};
+    ghost use Rattle.lab_form.specs.Columns.{AreKept, form_in};
 
     ghost Value = { FormValue };
 
-    ghost view = { λ f. record { sets1 = f.one.items; sets2 = f.two.items; rows = f.rows.items; set_room = f.set_room; row_room = f.row_room } };
+    ghost view = { λ f. form_in f.one f.two f.rows.items f.set_room f.row_room };
 
-    ghost invariant = { λ f. (f.set_room ≤ vec_capacity f.one) × (f.set_room ≤ vec_capacity f.two) × (f.row_room ≤ vec_capacity f.rows)
-        × IsFormValue (record { sets1 = f.one.items; sets2 = f.two.items; rows = f.rows.items; set_room = f.set_room; row_room = f.row_room }) };
+    ghost invariant = { λ f. AreKept (form_in f.one f.two f.rows.items f.set_room f.row_room) f.one f.two f.decisions.items
+        × (f.row_room ≤ vec_capacity f.rows) × (f.row_room ≤ vec_capacity f.decisions) };
 }
 
 impl Form {
@@ -48,19 +56,19 @@ impl Form {
     pub fn with_room(alloc: Global, sets: u32, rows: u32) -> Result<Self, NoMemory>
         ensures { IfOk result (λ f. f ≡ empty_form sets rows) }
     {
-        let Ok(one) = Vec::with_capacity(alloc, sets as usize) else {
-            return Err(NoMemory);
-        };
-        let Ok(two) = Vec::with_capacity(alloc, sets as usize) else {
-            return Err(NoMemory);
-        };
+        let one = SeatSets::with_room(alloc, sets, rows)?;
+        let two = SeatSets::with_room(alloc, sets, rows)?;
         let Ok(held) = Vec::with_capacity(alloc, rows as usize) else {
+            return Err(NoMemory);
+        };
+        let Ok(decisions) = Vec::with_capacity(alloc, rows as usize) else {
             return Err(NoMemory);
         };
         Ok(Form {
             one,
             two,
             rows: held,
+            decisions,
             set_room: sets,
             row_room: rows,
         })
@@ -73,9 +81,10 @@ impl Form {
         self.one.clear();
         self.two.clear();
         self.rows.clear();
+        self.decisions.clear();
     }
 
-    /// Adds a set of a seat, 1 or 2, behind the seat's sets.
+    /// Adds a set of a seat, 1 or 2, after the seat's sets.
     pub fn add_set(&mut self, seat: u32, set: FormSet)
         requires seat { (seat ≡ 1) ⊎ (seat ≡ 2) }
         requires room { length (sets_of self.old seat) < self.old.set_room }
@@ -83,18 +92,23 @@ impl Form {
         ensures { self.new ≡ with_set self.old seat set }
     {
         if seat == 1 {
-            push(&mut self.one, set);
+            self.one.add(set);
         } else {
-            push(&mut self.two, set);
+            self.two.add(set);
         }
     }
 
-    /// Adds a row behind the rows.
+    /// Adds a row after the rows.
     pub fn add_row(&mut self, row: FormRow)
         requires room { length self.old.rows < self.old.row_room }
         requires next { IsNextRow self.old.sets1 self.old.sets2 row }
         ensures { self.new ≡ with_row self.old row }
     {
+        let [one, two] = row.last;
+        let decisions = [self.one.last_decision(one), self.two.last_decision(two)];
+        push(&mut self.decisions, decisions);
+        self.one.add_row(one);
+        self.two.add_row(two);
         push(&mut self.rows, row);
     }
 
@@ -119,11 +133,7 @@ impl Form {
         ensures sets { result.now ≡ sets_of self.now seat }
         ensures order { AreSets result.now }
     {
-        if seat == 1 {
-            self.one.as_slice()
-        } else {
-            self.two.as_slice()
-        }
+        self.seat(seat).sets()
     }
 
     /// The rows.
@@ -132,5 +142,48 @@ impl Form {
         ensures there { AreRows self.now.sets1 self.now.sets2 result.now }
     {
         self.rows.as_slice()
+    }
+
+    /// The numbers of the sets of a seat, 1 or 2, whose parent is at a set, from the last to the first; for none, of those without a parent.
+    pub fn children(&self, seat: u32, parent: Option<SetId>) -> Chain<'_>
+        requires seat { (seat ≡ 1) ⊎ (seat ≡ 2) }
+        requires there { IsSetThere (length (sets_of self.now seat)) parent }
+        ensures { result ≡ children_of (sets_of self.now seat) parent }
+    {
+        self.seat(seat).children(parent)
+    }
+
+    /// The numbers of the rows whose last step of a seat, 1 or 2, is at a set, from the last to the first; for none, of those without a step of the seat.
+    pub fn rows_at(&self, seat: u32, set: Option<SetId>) -> Chain<'_>
+        requires seat { (seat ≡ 1) ⊎ (seat ≡ 2) }
+        requires there { IsSetThere (length (sets_of self.now seat)) set }
+        ensures { result ≡ rows_of seat self.now.rows set }
+    {
+        self.seat(seat).rows_at(set)
+    }
+
+    /// For each set of a seat, 1 or 2, the last decision above it: the number of the weight of the last step
+    /// along its parents at a set with two or more actions, plus one, in 32 bits; 0 where there is none.
+    pub fn decisions_above(&self, seat: u32) -> &[u32]
+        requires { (seat ≡ 1) ⊎ (seat ≡ 2) }
+        ensures { result.now ≡ decisions_above (sets_of self.now seat) }
+    {
+        self.seat(seat).decisions_above()
+    }
+
+    /// For each row the last decision of each seat along it, numbered as those above sets are.
+    pub fn last_decisions(&self) -> &[[u32; 2]]
+        ensures { result.now ≡ row_decisions self.now.sets1 self.now.sets2 self.now.rows }
+    {
+        self.decisions.as_slice()
+    }
+
+    /// What is kept of a seat, 1 or 2.
+    fn seat(&self, seat: u32) -> &SeatSets
+        requires { (seat ≡ 1) ⊎ (seat ≡ 2) }
+        ensures sets { result.now.sets ≡ sets_of self.now seat }
+        ensures rows { AreChains (length (sets_of self.now seat)) (λ (r : FormRow). last_of r seat) self.now.rows result.now.rows }
+    {
+        if seat == 1 { &self.one } else { &self.two }
     }
 }
