@@ -12,19 +12,14 @@ use Rattle.lab_defs_text.specs.Words.{Bytes, stands_in}
 use Rattle.lab_defs_text.proofs.SplitLemmas.{bytes_eq_is, bytes_eq_refl}
 use Rattle.lab_defs_game.proofs.NumberLemmas.{is_true_or}
 use Rattle.lab_defs_game.proofs.RecallLemmas.{not_both, names_itself}
-use Rattle.lab_defs_game.specs.Chance.{row_total}
 use Rattle.lab_defs_game.specs.Recall.{same_names}
 use Rattle.lab_defs_game.specs.Histories.{action_names}
-use Rattle.lab_math.proofs.ListTests.{item_at}
-use Rattle.lab_unfold.proofs.WorldLemmas.{whole_parts}
 use Rattle.lab_world.specs.declared.game.Game.{Game}
 use Rattle.lab_world.specs.declared.place.ActionId.{ActionId}
 use Rattle.lab_world.specs.Games.{game_model}
-use Rattle.lab_world.specs.declared.place.Place.{Place}
-use Rattle.lab_world.specs.declared.place.Place.TheVariants as place
-use Rattle.lab_world.specs.declared.place.Row.{Row}
 use Rattle.lab_world.specs.declared.place.World.{World}
-use Rattle.lab_world.specs.Models.{action_list, row_model}
+use Rattle.lab_world.specs.Models.{action_list, world_model}
+use Rattle.lab_world.specs.Filled.{ids_fit}
 use Rattle.lab_world.specs.Wholes.{with_new, all_action_names, place_fits}
 
 -- no name stands twice
@@ -125,14 +120,25 @@ pub compared : (g : Game) (xs ys : List ActionId) (ns ms : List Bytes) → InRan
     → pointwise (λ (x y : ActionId). nat_eq x.0 y.0) xs ys ≡ same_names ns ms
 compared g xs ys ns ms a b e f = same_ids g.actions xs ys (distinct_actions g) a b ∙ ap (λ ns. same_names ns (action_list g.actions ys)) e ∙ ap (same_names ns) f
 
--- those at a place are in range
-pub in_range : (g : Game) (i : ℕ) (p : Place) (w : World) → i < length g.places → p ≡ get_or g.places i p → p ≡ place.World w → InRange (length g.actions) w.one × InRange (length g.actions) w.two
-in_range g i p w l e is =
-    let fits = subst (λ q. place_fits (length g.actions) q ≡ true) is (item_at (place_fits (length g.actions)) g.places i p l e (whole_parts g).1) in
-    let totals = list_all (λ (r : Row). r.total == row_total (row_model r)) w.rows in
-    let two = list_all (λ (i : ActionId). nat_lt i.0 (length g.actions)) w.two in
-    let a = and_parts (list_all (λ (i : ActionId). nat_lt i.0 (length g.actions)) w.one) (two && totals) fits in
-    (a.0, (and_parts two totals a.1).0)
+-- those of a seat at a world are in range
+pub seat_ids : (n seat : ℕ) (w : World) (ids : List ActionId) → ids ≡ cond (seat == 1) w.one w.two → ids_fit n w ≡ true → InRange n ids
+seat_ids n seat w ids e fit = subst (InRange n) (sym e) (at (is_true_or (seat == 1)))
+  where
+    both : InRange n w.one × InRange n w.two
+    both = and_parts (list_all (λ (i : ActionId). nat_lt i.0 n) w.one) (list_all (λ (i : ActionId). nat_lt i.0 n) w.two) fit
+
+    at : (seat == 1 ≡ true) ⊎ (seat == 1 ≡ false) → InRange n (cond (seat == 1) w.one w.two)
+    at (inl t) = subst (λ b. InRange n (cond b w.one w.two)) (sym t) both.0
+    at (inr f) = subst (λ b. InRange n (cond b w.one w.two)) (sym f) both.1
+
+-- and have the names of the seat's actions there
+pub seat_names : (actions : List Bytes) (seat : ℕ) (w : World) (ids : List ActionId) (p : model.Place) → ids ≡ cond (seat == 1) w.one w.two → p ≡ model.a_world (world_model actions w)
+    → action_list actions ids ≡ action_names seat p
+seat_names actions seat w ids p e is = ap (action_list actions) e ∙ at (is_true_or (seat == 1)) ∙ ap (action_names seat) (sym is)
+  where
+    at : (seat == 1 ≡ true) ⊎ (seat == 1 ≡ false) → action_list actions (cond (seat == 1) w.one w.two) ≡ cond (seat == 1) (action_list actions w.one) (action_list actions w.two)
+    at (inl t) = ap (λ b. action_list actions (cond b w.one w.two)) t ∙ ap (λ b. cond b (action_list actions w.one) (action_list actions w.two)) (sym t)
+    at (inr f) = ap (λ b. action_list actions (cond b w.one w.two)) f ∙ ap (λ b. cond b (action_list actions w.one) (action_list actions w.two)) (sym f)
 
 -- a place has the names that it has
 pub one_place : (g : model.GameModel) (seat m n : ℕ) → nat_eq m n ≡ true → same_names (action_names seat (place_at g m)) (action_names seat (place_at g n)) ≡ true

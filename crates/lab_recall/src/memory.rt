@@ -12,7 +12,7 @@ ghost use Rattle.lab_recall.specs.Faults.{IsMemoryFault};
 
 use crate::RecallFault;
 use lab_seen::first_of_tokens;
-use lab_unfold::{Histories, HistoryId, world_at};
+use lab_unfold::{Histories, HistoryId};
 use lab_world::Game;
 use std::alloc::Global;
 
@@ -67,5 +67,5 @@ fn forgets(game: &Game, histories: &Histories, sets: &[u32], tokens: &[u32], num
     ensures { result ≡ forgets_at (game_model game.now) sets.now tokens.now number }
 {
     let here = histories.item(HistoryId(number)).world;
-    world_at(game, here).is_some() && sets[number as usize] != tokens[number as usize]
+    game.world(here).is_some() && sets[number as usize] != tokens[number as usize]
 }

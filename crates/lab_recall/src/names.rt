@@ -1,6 +1,6 @@
 //! Whether the names of actions agree in each information set.
 
-ghost use Rattle.std.specs.Prelude.{◌≡◌, ◌<◌, ℕ, true, false, length, map, slice_index, IfSome, IfNone, OnOk, IfErr, nat_lt};
+ghost use Rattle.std.specs.Prelude.{◌≡◌, ◌⊎◌, ◌<◌, ℕ, true, false, length, map, slice_index, IfSome, IfNone, OnOk, IfErr, nat_lt};
 ghost use Rattle.std.specs.List.{list_all};
 ghost use Rattle.lab_defs_text.specs.Texts.{place_at};
 ghost use Rattle.lab_defs_game.specs.Laws.{AlikeNames};
@@ -15,8 +15,8 @@ ghost use Rattle.lab_recall.specs.Tests.{differs_at, IsFirstAt};
 ghost use Rattle.lab_recall.specs.Faults.{IsNamesFault};
 
 use crate::RecallFault;
-use lab_unfold::{Histories, HistoryId, world_at};
-use lab_world::{ActionId, Game, Place, WorldId};
+use lab_unfold::{Histories, HistoryId};
+use lab_world::{ActionId, Game, WorldId};
 
 /// Checks that at the histories of each information set of a seat its actions have the same names, by the first history of each set.
 pub fn check_names(
@@ -26,6 +26,7 @@ pub fn check_names(
     seat: u32,
 ) -> Result<(), RecallFault>
     requires unfolded { histories.now ≡ unfolded (game_model game.now) }
+    requires seat { (seat ≡ 1) ⊎ (seat ≡ 2) }
     requires firsts { AreFirsts (is_inner (game_model game.now)) (recall.one_set (game_model game.now) seat) histories.now.histories firsts.now }
     ensures none { OnOk result (AlikeNames (game_model game.now) seat) }
     ensures fault { IfErr result (λ e. IsNamesFault (game_model game.now) seat e) }
@@ -43,6 +44,7 @@ pub fn check_names(
 // The first history whose actions have other names than those of the first one of its set.
 fn first_differing(game: &Game, histories: &Histories, firsts: &[u32], seat: u32) -> Option<u32>
     requires unfolded { histories.now ≡ unfolded (game_model game.now) }
+    requires seat { (seat ≡ 1) ⊎ (seat ≡ 2) }
     requires count { length firsts.now ≡ length histories.now.items }
     requires below { (i : ℕ) → i < length histories.now.items → slice_index firsts.now i < length histories.now.items }
     ensures some { IfSome result (λ n. IsFirstAt (differs_at (game_model game.now) seat firsts.now) (length histories.now.items) n) }
@@ -59,6 +61,7 @@ fn first_differing(game: &Game, histories: &Histories, firsts: &[u32], seat: u32
 // Whether the seat's actions at a history have other names than those at the first one of its set.
 fn differs(game: &Game, histories: &Histories, firsts: &[u32], seat: u32, number: u32) -> bool
     requires unfolded { histories.now ≡ unfolded (game_model game.now) }
+    requires seat { (seat ≡ 1) ⊎ (seat ≡ 2) }
     requires count { length firsts.now ≡ length histories.now.items }
     requires there { number < length histories.now.items }
     requires below { slice_index firsts.now number < length histories.now.items }
@@ -66,11 +69,12 @@ fn differs(game: &Game, histories: &Histories, firsts: &[u32], seat: u32, number
 {
     let here = histories.item(HistoryId(number)).world;
     let first = histories.item(HistoryId(firsts[number as usize])).world;
-    world_at(game, here).is_some() && !same_names(game, first, here, seat)
+    game.world(here).is_some() && !same_names(game, first, here, seat)
 }
 
 // Whether a seat's actions at two places have the same names.
 fn same_names(game: &Game, one: WorldId, two: WorldId, seat: u32) -> bool
+    requires { (seat ≡ 1) ⊎ (seat ≡ 2) }
     ensures { result ≡ recall.same_names (action_names seat (place_at (game_model game.now) one.0))
         (action_names seat (place_at (game_model game.now) two.0)) }
 {
@@ -79,18 +83,13 @@ fn same_names(game: &Game, one: WorldId, two: WorldId, seat: u32) -> bool
 
 // The seat's actions at a place; none at an end.
 fn actions_of(game: &Game, id: WorldId, seat: u32) -> &[ActionId]
+    requires { (seat ≡ 1) ⊎ (seat ≡ 2) }
     ensures names { action_list game.now.actions result.now
         ≡ action_names seat (place_at (game_model game.now) id.0) }
     ensures fit { list_all (λ (i : ActionId). nat_lt i.0 (length game.now.actions)) result.now ≡ true }
 {
-    match game.places.as_slice().get(id.0 as usize) {
-        Some(Place::World(world)) => {
-            if seat == 1 {
-                world.one.as_slice()
-            } else {
-                world.two.as_slice()
-            }
-        }
-        _ => &[],
+    match game.world(id) {
+        Some(world) => world.actions(seat),
+        None => &[],
     }
 }

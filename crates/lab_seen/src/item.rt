@@ -11,7 +11,7 @@ ghost use Rattle.lab_world.specs.Models.{outcome_model};
 ghost use Rattle.lab_unfold.specs.Values.{unfolded, step_model};
 ghost use Rattle.lab_seen.specs.Items.{item_model, last_item};
 
-use lab_unfold::{Histories, HistoryId, Step, row_of, world_at};
+use lab_unfold::{Histories, HistoryId, Step};
 use lab_world::{Game, Outcome, WorldId};
 
 /// The place of the seat's own action, its private token and the public token. Items go by these in this order.
@@ -43,10 +43,10 @@ fn outcome_at(game: &Game, id: WorldId, step: Step) -> Outcome
     requires { IsStep (place_at (game_model game.now) id.0) (step_model step) }
     ensures { outcome_model result ≡ outcome_of (game_model game.now) id.0 (step_model step) }
 {
-    let Some(world) = world_at(game, id) else {
+    let Some(world) = game.world(id) else {
         unreachable!();
     };
-    let row = row_of(world, step.place1 as usize, step.place2 as usize);
+    let row = world.row(step.place1 as usize, step.place2 as usize);
     row.outcomes.as_slice()[step.outcome as usize]
 }
 

@@ -8,7 +8,7 @@ ghost use Rattle.lab_seen.specs.Links.{IsMade, IsGrown};
 
 use super::link::{Kept, Link};
 use crate::{Item, last_seen};
-use lab_unfold::{Histories, HistoryId, world_at};
+use lab_unfold::{Histories, HistoryId};
 use lab_world::Game;
 use std::alloc::{AllocError, Global};
 
@@ -56,7 +56,7 @@ fn counts(game: &Game, histories: &Histories, kept: Kept, id: HistoryId) -> bool
     requires there { id.0 < length histories.now.items }
     ensures { result ≡ counted (game_model game.now) kept (slice_index_or histories.now.histories id.0 []) }
 {
-    kept == Kept::Public || world_at(game, histories.item(id).world).is_some()
+    kept == Kept::Public || game.world(histories.item(id).world).is_some()
 }
 
 // What is kept of an item.

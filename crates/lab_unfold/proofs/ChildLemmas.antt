@@ -24,7 +24,7 @@ use Rattle.lab_defs_game.proofs.Legal.{step_at, steps_by}
 use Rattle.lab_defs_game.proofs.Suffixes.{no_steps}
 use Rattle.lab_unfold.specs.declared.history.HistoryId.{HistoryId}
 use Rattle.lab_unfold.specs.declared.history.History.{History}
-use Rattle.lab_unfold.specs.Filled.{is_row, row_at}
+use Rattle.lab_world.specs.Filled.{is_row, row_at}
 use Rattle.lab_unfold.specs.Children.{row_children, second_children, first_children, child_in, children_in}
 
 -- ---- loops

@@ -1,5 +1,4 @@
 pub mod ChildLemmas
-pub mod WorldLemmas
 pub mod LevelLemmas
 pub mod ParentLemmas
 pub mod PayoffLemmas

@@ -18,10 +18,10 @@ use Rattle.lab_defs_text.proofs.GameLemmas.{world_fine}
 use Rattle.lab_world.specs.declared.place.Row.{Row}
 use Rattle.lab_world.specs.Models.{row_model}
 use Rattle.lab_unfold.specs.declared.history.History.{History}
-use Rattle.lab_unfold.specs.Filled.{is_row}
+use Rattle.lab_world.specs.Filled.{is_row}
 use Rattle.lab_unfold.specs.Values.{history_in}
 use Rattle.lab_unfold.specs.Units.{lcm_with, unit_with, unit_of}
-use Rattle.lab_unfold.proofs.WorldLemmas.{total_pos}
+use Rattle.lab_world.proofs.CallerLemmas.{total_pos}
 
 -- ---- what is told
 

@@ -8,7 +8,7 @@ use Rattle.lab_world.specs.declared.place.Outcome.{Outcome}
 use Rattle.lab_world.specs.declared.place.World.{World}
 use Rattle.lab_unfold.specs.declared.history.HistoryId.{HistoryId}
 use Rattle.lab_unfold.specs.declared.history.History.{History}
-use Rattle.lab_unfold.specs.Filled.{row_at}
+use Rattle.lab_world.specs.Filled.{row_at}
 use Rattle.lab_unfold.specs.Values.{step_in}
 
 -- the histories of this depth behind a parent, by the outcomes of a row, the first of which has the number k

@@ -1,5 +1,4 @@
 pub mod Values
-pub mod Filled
 pub mod Children
 pub mod Levels
 pub mod Faults

@@ -21,7 +21,6 @@ ghost use Rattle.lab_defs_game.specs.Laws.{IsStep};
 ghost use Rattle.lab_world.specs.Games.{game_model};
 ghost use Rattle.lab_unfold.specs.Values.{history_in, step_model};
 
-use super::worlds::{row_of, world_at};
 use crate::{History, Step};
 use lab_world::{Game, WorldId};
 use std::alloc::{AllocError, Global};
@@ -70,10 +69,10 @@ fn share(game: &Game, id: WorldId, step: Step, chance: u128) -> u128
     ensures { result ≡ chance / model.row_total (row_of (place_at (game_model game.now) id.0) step.place1 step.place2)
         * (outcome_of (game_model game.now) id.0 (step_model step)).weight }
 {
-    let Some(world) = world_at(game, id) else {
+    let Some(world) = game.world(id) else {
         unreachable!();
     };
-    let row = row_of(world, step.place1 as usize, step.place2 as usize);
+    let row = world.row(step.place1 as usize, step.place2 as usize);
     let outcome = row.outcomes.as_slice()[step.outcome as usize];
     part(chance, row.total, outcome.weight)
 }

@@ -2,6 +2,7 @@
 
 ghost use Rattle.std.specs.Prelude.{
   ◌≡◌,
+  ◌⊎◌,
   ◌<◌,
   ◌≤◌,
   [],
@@ -19,7 +20,6 @@ ghost use Rattle.lab_defs_game.specs.Sets as sets;
 ghost use Rattle.lab_world.specs.Games.{game_model};
 ghost use Rattle.lab_unfold.specs.Values.{history_in};
 
-use super::worlds::world_at;
 use crate::History;
 use lab_world::{Game, WorldId};
 use std::alloc::{AllocError, Global};
@@ -31,7 +31,8 @@ pub fn most_decisions(
     items: &[History],
     seat: u32,
 ) -> Result<u32, AllocError>
-    requires { items.now ≡ map (history_in (game_model game.now)) (histories (game_model game.now)) }
+    requires seat { (seat ≡ 1) ⊎ (seat ≡ 2) }
+    requires items { items.now ≡ map (history_in (game_model game.now)) (histories (game_model game.now)) }
     ensures value { IfOk result (λ n. n ≡ sets.most_decisions (game_model game.now) seat) }
     ensures small { IfOk result (λ n. n ≤ 32) }
 {
@@ -47,6 +48,7 @@ pub fn most_decisions(
 
 // The count of the first history that has none yet.
 fn next_count(game: &Game, items: &[History], counts: &[u32], seat: u32) -> u32
+    requires seat { (seat ≡ 1) ⊎ (seat ≡ 2) }
     requires items { items.now ≡ map (history_in (game_model game.now)) (histories (game_model game.now)) }
     requires counts { counts.now ≡ map (sets.decisions_from (game_model game.now) seat game.now.root.0)
         (take (length counts.now) (histories (game_model game.now))) }
@@ -64,17 +66,13 @@ fn next_count(game: &Game, items: &[History], counts: &[u32], seat: u32) -> u32
 
 // 1 where a seat has two or more actions, else 0.
 fn decisions_at(game: &Game, id: WorldId, seat: u32) -> u32
+    requires { (seat ≡ 1) ⊎ (seat ≡ 2) }
     ensures value { result
         ≡ (if nat_le 2 (actions_at seat (place_at (game_model game.now) id.0)) then 1 else 0) }
     ensures small { result ≤ 1 }
 {
-    let Some(world) = world_at(game, id) else {
+    let Some(world) = game.world(id) else {
         return 0;
     };
-    let actions = if seat == 1 {
-        world.one.len()
-    } else {
-        world.two.len()
-    };
-    if actions >= 2 { 1 } else { 0 }
+    if world.actions(seat).len() >= 2 { 1 } else { 0 }
 }

@@ -25,7 +25,6 @@ ghost use Rattle.lab_unfold.specs.Levels.{histories_to, IsFirstOf};
 ghost use Rattle.lab_unfold.specs.Faults.{IsFault};
 
 use super::steps::{Stop, push_children};
-use super::worlds::world_at;
 use crate::{History, HistoryId, UnfoldFault};
 use lab_world::{Game, WorldId};
 use std::alloc::Global;
@@ -116,7 +115,7 @@ pub fn open_world(game: &Game, level: &[History]) -> Option<WorldId>
         ≡ first_world (game_model game.now) (map (λ (h : History). h.world.0) level.now) }
 {
     for history in level {
-        if world_at(game, history.world).is_some() {
+        if game.world(history.world).is_some() {
             return Some(history.world);
         }
     }

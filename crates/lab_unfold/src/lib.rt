@@ -12,9 +12,7 @@ mod sizes;
 mod steps;
 mod unfolding;
 mod units;
-mod worlds;
 
 pub use histories::Histories;
 pub use history::{History, HistoryId, Scale, Step, UnfoldFault};
 pub use unfolding::unfold;
-pub use worlds::{row_of, world_at};

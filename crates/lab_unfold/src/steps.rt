@@ -2,7 +2,7 @@
 
 ghost use Rattle.std.specs.Prelude.{◌≡◌, ◌<◌, ◌≤◌, ◌+◌, ◌*◌, ◌++◌, length, OnOk, Err};
 ghost use Rattle.lab_world.specs.Games.{game_model};
-ghost use Rattle.lab_unfold.specs.Filled.{IsFilled};
+ghost use Rattle.lab_world.specs.Filled.{IsFilled};
 ghost use Rattle.lab_unfold.specs.Children.{
   row_children,
   second_children,
@@ -10,7 +10,6 @@ ghost use Rattle.lab_unfold.specs.Children.{
   children_in,
 };
 
-use super::worlds::{row_of, world_at};
 use crate::{History, HistoryId, Step};
 use lab_world::{Game, Outcome, World};
 
@@ -40,7 +39,7 @@ pub fn push_children(
     ensures full { result ≡ Err Stop.Full → 65536 < length items.old.items
         + length (children_in (game_model game.now) parent history.world.0 (history.depth + 1)) }
 {
-    match world_at(game, history.world) {
+    match game.world(history.world) {
         Some(world) => push_firsts(items, parent, history.depth + 1, world),
         None => Ok(()),
     }
@@ -86,7 +85,7 @@ fn push_seconds(
         + length (second_children parent depth world.now place1 0 (length world.now.two)) }
 {
     for place2 in 0..world.two.len() {
-        let row = row_of(world, place1 as usize, place2);
+        let row = world.row(place1 as usize, place2);
         push_row(
             items,
             parent,

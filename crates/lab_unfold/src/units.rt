@@ -7,11 +7,10 @@ ghost use Rattle.lab_defs_game.specs.Histories.{histories};
 ghost use Rattle.lab_defs_game.specs.Unfolding.{told_scale};
 ghost use Rattle.lab_world.specs.Games.{game_model};
 ghost use Rattle.lab_world.specs.Models.{row_model};
-ghost use Rattle.lab_unfold.specs.Filled.{is_row};
+ghost use Rattle.lab_world.specs.Filled.{is_row};
 ghost use Rattle.lab_unfold.specs.Values.{history_in};
 ghost use Rattle.lab_unfold.specs.Units as units;
 
-use super::worlds::world_at;
 use crate::History;
 use lab_units::lcm_within;
 use lab_world::{Game, Row};
@@ -66,7 +65,7 @@ fn unit_with(game: &Game, history: History, depth: u32, unit: u128) -> Option<u1
     if history.depth != depth {
         return Some(unit);
     }
-    let Some(world) = world_at(game, history.world) else {
+    let Some(world) = game.world(history.world) else {
         return Some(unit);
     };
     totals_with(world.rows.as_slice(), unit)

@@ -1,5 +1,7 @@
 pub mod ActionNameLemmas
+pub mod CallerLemmas
 pub mod EachLemmas
+pub mod FilledLemmas
 pub mod MadeLemmas
 pub mod OrderLemmas
 pub mod PartLemmas

@@ -4,3 +4,4 @@ pub mod Games
 pub mod Drafts
 pub mod Stages
 pub mod Made
+pub mod Filled

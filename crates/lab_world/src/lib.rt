@@ -13,6 +13,7 @@ mod ordered;
 mod parts;
 mod place;
 mod placed;
+mod reads;
 mod rooted;
 mod row_numbers;
 mod stages;

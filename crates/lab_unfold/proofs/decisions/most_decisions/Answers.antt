@@ -1,6 +1,6 @@
 use Rattle.std.proofs.Common.{arith}
 use Rattle.lab_world.specs.Games.{game_model}
-use Rattle.lab_unfold.proofs.WorldLemmas.{horizon_small}
+use Rattle.lab_world.proofs.CallerLemmas.{horizon_small}
 use Rattle.lab_unfold.proofs.ParentLemmas.{most_small}
 use Rattle.lab_unfold.proofs.decisions.most_decisions.Goals as goal
 

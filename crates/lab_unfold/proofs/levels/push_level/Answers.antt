@@ -7,7 +7,7 @@ use Rattle.lab_unfold.specs.declared.history.History.{History}
 use Rattle.lab_unfold.specs.Values.{history_in}
 use Rattle.lab_unfold.specs.Levels.{histories_to}
 use Rattle.lab_unfold.proofs.ChildLemmas.{moved, passed}
-use Rattle.lab_unfold.proofs.WorldLemmas.{horizon_small}
+use Rattle.lab_world.proofs.CallerLemmas.{horizon_small}
 use Rattle.lab_unfold.proofs.LevelLemmas.{level_start, level_next, kept_read, kept_more, kept_short, kept_below, depth_small}
 use Rattle.lab_unfold.proofs.levels.push_level.Goals as goal
 

@@ -1,7 +1,7 @@
 use Rattle.std.proofs.Common.{sym, ◌∙◌}
 use Rattle.lab_world.specs.Games.{game_model}
 use Rattle.lab_defs_game.specs.Chance.{scale}
-use Rattle.lab_unfold.proofs.WorldLemmas.{whole_parts, grid_some}
+use Rattle.lab_world.proofs.CallerLemmas.{whole_parts, grid_some}
 use Rattle.lab_unfold.proofs.UnitLemmas.{units_some}
 use Rattle.lab_unfold.proofs.SizeLemmas.{told_fine, size_within, size_past}
 use Rattle.lab_unfold.proofs.sizes.scale_within.Goals as goal

@@ -1,7 +1,7 @@
 use Rattle.std.proofs.Common.{◌∙◌}
 use Rattle.lab_world.specs.Games.{game_model}
 use Rattle.lab_unfold.specs.Faults.{IsFault}
-use Rattle.lab_unfold.proofs.WorldLemmas.{horizon_some}
+use Rattle.lab_world.proofs.CallerLemmas.{horizon_some}
 use Rattle.lab_unfold.proofs.BirthLemmas.{births_sorted}
 use Rattle.lab_unfold.proofs.FaultLemmas.{horizon_found, size_decides, size_reason, handed_on}
 use Rattle.lab_unfold.proofs.StepLemmas.{steps_tell, value_is}

@@ -1,6 +1,6 @@
 use Rattle.std.proofs.Common.{◌<◌, ◌≤◌, ◌+◌, ◌-◌, ◌^◌, length, drop, sym, ◌∙◌, subst, arith}
 use Rattle.lab_world.specs.Games.{game_model}
-use Rattle.lab_unfold.proofs.WorldLemmas.{whole_parts}
+use Rattle.lab_world.proofs.CallerLemmas.{whole_parts}
 use Rattle.lab_unfold.proofs.UnitLemmas.{told_is, unit_some, unit_next, unit_none, unit_end}
 use Rattle.lab_unfold.proofs.units.chance_unit.Goals as goal
 

@@ -1,7 +1,7 @@
 use Rattle.std.proofs.Common.{◌<◌, ◌≤◌, ◌*◌, ◌+◌, ◌-◌, ◌^◌, sym, ◌∙◌, ap, subst, arith}
 use Rattle.lab_defs_game.specs.Unfolding.{told_scale}
 use Rattle.lab_world.specs.Games.{game_model}
-use Rattle.lab_unfold.proofs.WorldLemmas.{whole_parts}
+use Rattle.lab_world.proofs.CallerLemmas.{whole_parts}
 use Rattle.lab_unfold.proofs.UnitLemmas.{told_is, units_some, units_next, unit_past, product_past, scale_end}
 use Rattle.lab_unfold.proofs.units.scale.Goals as goal
 

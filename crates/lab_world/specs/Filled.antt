@@ -2,6 +2,7 @@
 use Rattle.std.specs.Prelude.{ℕ, [], slice_index_or, ◌≡◌, ◌<◌, ◌*◌, ◌&&◌, ◌==◌, nat_lt, Bool, true, length}
 use Rattle.std.specs.List.{list_all}
 use Rattle.lab_defs_game.specs.Chance.{row_total}
+use Rattle.lab_world.specs.declared.place.ActionId.{ActionId}
 use Rattle.lab_world.specs.declared.place.Row.{Row}
 use Rattle.lab_world.specs.declared.place.World.{World}
 use Rattle.lab_world.specs.Models.{row_model}
@@ -20,3 +21,7 @@ pub record IsFilled (w : World) : Type 0 where
   pub two : 0 < length w.two
   pub count : length w.rows ≡ length w.one * length w.two
   pub rows : list_all is_row w.rows ≡ true
+
+-- each action of either seat is one of this many
+abbrev pub ids_fit : ℕ → World → Bool
+ids_fit actions w = list_all (λ (i : ActionId). nat_lt i.0 actions) w.one && list_all (λ (i : ActionId). nat_lt i.0 actions) w.two

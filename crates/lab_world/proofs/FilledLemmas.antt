@@ -1,15 +1,13 @@
--- What holds of the worlds of a game.
-use Rattle.std.proofs.Common.{◌≡◌, ℕ, zero, suc, ◌*◌, ◌<◌, ◌≤◌, true, List, [], ◌∷◌, length, get_or, map, refl, sym, ◌∙◌, ap, subst, arith}
+-- The worlds of a game have actions and rows, and their actions are named.
+use Rattle.std.proofs.Common.{◌≡◌, ℕ, zero, suc, ◌*◌, ◌<◌, true, List, [], ◌∷◌, length, get_or, map, refl, sym, ◌∙◌, ap, subst, arith}
 use Rattle.std.proofs.lemmas.List.{length-map}
-use Rattle.std.specs.Prelude.{◌&&◌, ◌==◌, nat_lt, nat_le, slice_index_or}
+use Rattle.std.specs.Prelude.{◌&&◌, ◌==◌, nat_lt, slice_index_or}
 use Rattle.std.specs.List.{list_all}
-use Rattle.std.specs.Str.{bytes_eq}
-use Rattle.std.specs.Cmp.Lexicographic.{pointwise}
-use Rattle.std.proofs.lemmas.Bool.{and_parts, and_from, lt-ltb, ltb-true, leb-true, eqb-true}
+use Rattle.std.proofs.lemmas.Bool.{and_parts, and_from, lt-ltb, ltb-true, eqb-true}
 use Rattle.lab_math.proofs.ListTests.{item_at, image_at, all_from_each}
-use Rattle.lab_defs_text.specs.Games.{GameModel, Outcome}
-use Rattle.lab_defs_text.specs.Texts.{game_ok, place_ok, row_ok, outcome_ok}
-use Rattle.lab_defs_text.proofs.GameLemmas.{game_fine, world_fine, names_fine, outcome_fine}
+use Rattle.lab_defs_text.specs.Games.{GameModel}
+use Rattle.lab_defs_text.specs.Texts.{place_ok, row_ok, outcome_ok}
+use Rattle.lab_defs_text.proofs.GameLemmas.{game_fine, world_fine, names_fine}
 use Rattle.lab_defs_game.specs.Chance.{row_total}
 use Rattle.lab_world.specs.declared.game.Game.{Game}
 use Rattle.lab_world.specs.declared.place.ActionId.{ActionId}
@@ -18,25 +16,11 @@ use Rattle.lab_world.specs.declared.place.Place.TheVariants as place
 use Rattle.lab_world.specs.declared.place.World.{World}
 use Rattle.lab_world.specs.declared.place.Row.{Row}
 use Rattle.lab_world.specs.Models.{outcome_model, row_model, world_model, place_model, action_list}
-use Rattle.lab_world.specs.Wholes.{place_fits, all_action_names}
+use Rattle.lab_world.specs.Wholes.{place_fits}
 use Rattle.lab_world.specs.Games.{game_model}
-use Rattle.lab_unfold.specs.Filled.{is_row, IsFilled}
-
--- what holds of the parts of a game: it is one of the definitions, and its places fit
-pub whole_parts : (g : Game) → (game_ok (game_model g) ≡ true) × (list_all (place_fits (length g.actions)) g.places ≡ true)
-whole_parts g =
-    let fits = list_all (place_fits (length g.actions)) g.places in
-    let names = pointwise bytes_eq g.actions (all_action_names [] (game_model g).places) in
-    let whole = and_parts (game_ok (game_model g)) (fits && names) g.whole in
-    (whole.0, (and_parts fits names whole.1).0)
-
--- outcomes weigh something together
-pub total_pos : (g : GameModel) (os : List Outcome) → 0 < length os → list_all (outcome_ok g) os ≡ true → 0 < row_total os
-total_pos g [] some ok = absurd (omega (arith, some))
-total_pos g (o ∷ os) some ok =
-    let first = outcome_fine g o (and_parts (outcome_ok g o) (list_all (outcome_ok g) os) ok).0 in
-    let least = leb-true 1 o.weight (and_parts (nat_le 1 o.weight) (nat_le o.weight 1048576) first.weight).0 in
-    omega (arith, least)
+use Rattle.lab_world.specs.Filled.{is_row, IsFilled}
+use Rattle.lab_world.specs.Filled.{ids_fit}
+use Rattle.lab_world.proofs.CallerLemmas.{whole_parts, total_pos}
 
 -- the row with a number
 row_is : (g : GameModel) (rows : List Row) → list_all (row_ok g) (map row_model rows) ≡ true → list_all (λ (r : Row). r.total == row_total (row_model r)) rows ≡ true → list_all is_row rows ≡ true
@@ -79,14 +63,12 @@ filled g i p w l e is =
       rows = row_is (game_model g) w.rows fine.rows (and_parts two totals (and_parts one (two && totals) fits).1).1;
     }
 
--- the horizon is at most 32
-pub horizon_small : (g : Game) → g.horizon ≤ 32
-horizon_small g = leb-true g.horizon 32 (and_parts (nat_le 1 g.horizon) (nat_le g.horizon 32) (game_fine (game_model g) (whole_parts g).0).horizon).1
-
--- the grid is at least 1
-pub grid_some : (g : Game) → 0 < g.grid
-grid_some g = leb-true 1 g.grid (and_parts (nat_le 1 g.grid) (nat_le g.grid 4096) (game_fine (game_model g) (whole_parts g).0).grid).0
-
--- the horizon is at least 1
-pub horizon_some : (g : Game) → 0 < g.horizon
-horizon_some g = leb-true 1 g.horizon (and_parts (nat_le 1 g.horizon) (nat_le g.horizon 32) (game_fine (game_model g) (whole_parts g).0).horizon).0
+-- the actions of a world of a game are among its actions
+pub ids_known : (g : Game) (i : ℕ) (p : Place) (w : World) → i < length g.places → p ≡ get_or g.places i p → p ≡ place.World w → ids_fit (length g.actions) w ≡ true
+ids_known g i p w l e is =
+    let one = list_all (λ (i : ActionId). nat_lt i.0 (length g.actions)) w.one in
+    let two = list_all (λ (i : ActionId). nat_lt i.0 (length g.actions)) w.two in
+    let totals = list_all (λ (r : Row). r.total == row_total (row_model r)) w.rows in
+    let fits = subst (λ q. place_fits (length g.actions) q ≡ true) is (item_at (place_fits (length g.actions)) g.places i p l e (whole_parts g).1) in
+    let all = and_parts one (two && totals) fits in
+    and_from one two all.0 (and_parts two totals all.1).0
