@@ -2,3 +2,4 @@ pub mod Positions
 pub mod ClippedDigits
 pub mod EmptyPlaces
 pub mod WholeAnswers
+pub mod CallerLemmas

@@ -11,7 +11,7 @@ use Rattle.lab_defs_text.specs.Words.{Bytes, apart_after, stands_in}
 use Rattle.lab_defs_text.specs.Texts.{name_of}
 use Rattle.lab_defs_text.proofs.ListLemmas.{all_weaker, all_append}
 use Rattle.lab_defs_text.proofs.SplitLemmas.{bytes_eq_is}
-use Rattle.lab_lex.proofs.Positions.{list_any-from_None}
+use Rattle.lab_lex.proofs.CallerLemmas.{nothing_passes}
 use Rattle.lab_world.specs.declared.place.ActionId.{ActionId}
 use Rattle.lab_world.specs.Models.{action_list}
 use Rattle.lab_world.specs.Wholes.{with_new}
@@ -52,7 +52,7 @@ stands_at name ns k e =
 
 -- a name that is not found does not stand there
 pub stands_nowhere : (name : Bytes) (ns : List Bytes) → position (bytes_eq name) ns ≡ None → stands_in name ns ≡ false
-stands_nowhere name ns e = list_any-from_None (bytes_eq name) ns e
+stands_nowhere name ns e = nothing_passes (bytes_eq name) ns e
 
 -- names that stand apart of others begin with one that is none of them
 pub apart_first : (before : List Bytes) (n : Bytes) (ns : List Bytes) → apart_after before (n ∷ ns) ≡ true → stands_in n before ≡ false
@@ -85,6 +85,21 @@ with_new_grows names ns =
     let r = with_new_rest names ns in
     let n : length (with_new names ns) ≡ length names + length r.0 = ap length r.1 ∙ length-append names r.0 in
     omega (arith, n)
+
+-- one name adds one at most
+with_one_few : (names : List Bytes) (n : Bytes) → length (with_one names n) ≤ length names + 1
+with_one_few names n = elim (cases_Bool (stands_in n names)) [
+  | inl t ↦ rw t (omega arith)
+  | inr t ↦ rw t (omega (arith, length-append names (n ∷ [])))
+]
+
+-- names add no more than they are
+pub with_new_few : (names ns : List Bytes) → length (with_new names ns) ≤ length names + length ns
+with_new_few names [] = omega arith
+with_new_few names (n ∷ ns) =
+    let a = with_one_few names n in
+    let b = with_new_few (with_one names n) ns in
+    omega (arith, a, b)
 
 -- ---- numbers of names
 

@@ -9,3 +9,4 @@ pub mod PlaceLemmas
 pub mod RowLemmas
 pub mod RunLemmas
 pub mod SearchLemmas
+pub mod SizeLemmas

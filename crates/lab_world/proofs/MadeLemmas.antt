@@ -1,24 +1,19 @@
 -- One place more, and what is made of all places.
-use Rattle.std.proofs.Common.{◌≡◌, ℕ, true, false, cond, ◌&&◌, List, [], ◌∷◌, ◌++◌, Option, Some, None, Result, Ok, Err, refl, ap, ◌∙◌}
+use Rattle.std.proofs.Common.{◌≡◌, ℕ, true, false, cond, List, [], ◌∷◌, ◌++◌, Option, Some, None, Result, Ok, Err, refl, ap, ◌∙◌}
 use Rattle.std.specs.Prelude.{OnOk}
-use Rattle.std.specs.List.{list_all}
 use Rattle.std.specs.Option.{is_some}
-use Rattle.std.proofs.lemmas.Bool.{and_from, and_parts}
 use Rattle.lab_defs_text.specs.Agreement.{FaultAgrees}
 use Rattle.lab_defs_text.specs.Faults.{TextFault, no_root}
-use Rattle.lab_defs_text.specs.Words.{Bytes, apart_after, are_names}
+use Rattle.lab_defs_text.specs.Words.{Bytes}
 use Rattle.lab_defs_text.specs.Games as model
 use Rattle.lab_defs_text.specs.Drafts as draft
 use Rattle.lab_defs_text.specs.Steps.{◌>>=◌, each}
-use Rattle.lab_defs_text.specs.Assembly.{KnownPlace, known_world, known_end, PlacedPlace, known, known_row, known_place, placed, ordered, is_world_at}
-use Rattle.lab_defs_text.specs.Parts.{part_ok, part_row_ok}
-use Rattle.lab_defs_text.proofs.GameLemmas.{names_fine}
-use Rattle.lab_defs_text.proofs.StepLemmas.{bind_ok, ok_carries}
+use Rattle.lab_defs_text.specs.Assembly.{KnownPlace, PlacedPlace, known, known_place, placed, ordered, is_world_at}
 use Rattle.lab_world.specs.declared.parts.AssembleFault.{AssembleFault}
 use Rattle.lab_world.specs.declared.stages.NumberedPlaces.{NumberedPlaces}
 use Rattle.lab_world.specs.declared.stages.MadePlaces.{MadePlaces}
 use Rattle.lab_world.specs.Drafts.{assemble_fault}
-use Rattle.lab_world.specs.Stages.{known_apart, Rooted, rooted}
+use Rattle.lab_world.specs.Stages.{Rooted, rooted}
 use Rattle.lab_world.specs.Made.{in_order, AreNumbered, OrderedBy, AreOrdered, PlacedBy}
 use Rattle.lab_world.proofs.EachLemmas.{each_more, fault_more, fault_kept}
 
@@ -26,16 +21,6 @@ use Rattle.lab_world.proofs.EachLemmas.{each_more, fault_more, fault_kept}
 pub on_ok : {A E : Type 0} {P Q : Type 0} (r : Result A E) → (P → Q) → OnOk r P → OnOk r Q
 on_ok (Ok x) f h = f h
 on_ok (Err e) f h = tt
-
--- a place that is known has its actions apart
-pub known_is_apart : (ns ts : List Bytes) (p : draft.PartPlace) (k : KnownPlace) → part_ok p ≡ true → known_place ns ts p ≡ Ok k → known_apart k ≡ true
-known_is_apart ns ts (draft.part_end n line z) k f e = ok_carries (λ (x : KnownPlace). known_apart x ≡ true) (known_end z) k e refl
-known_is_apart ns ts (draft.part_world w) k f e =
-    let h = and_parts (are_names w.one) (are_names w.two && list_all part_row_ok w.rows) f in
-    let i = and_parts (are_names w.two) (list_all part_row_ok w.rows) h.1 in
-    let a = bind_ok (each (known_row ns ts) w.rows) (λ rs. Ok (known_world w.line w.one w.two rs)) k e in
-    ok_carries (λ (x : KnownPlace). known_apart x ≡ true) (known_world w.line w.one w.two a.0) k a.2
-    (and_from (apart_after [] w.one) (apart_after [] w.two) (names_fine w.one h.0).apart (names_fine w.two i.0).apart)
 
 -- ---- one place more
 

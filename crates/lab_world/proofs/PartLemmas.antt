@@ -8,6 +8,7 @@ use Rattle.std.specs.Cmp.Lexicographic.{pointwise}
 use Rattle.std.specs.Str.{bytes_eq}
 use Rattle.std.proofs.lemmas.Bool.{and_parts, and_from, lt-ltb}
 use Rattle.std.proofs.lemmas.List.{length-map}
+use Rattle.lab_math.specs.Sums.{sum_over}
 use Rattle.lab_defs_text.specs.Agreement.{FaultAgrees}
 use Rattle.lab_defs_text.specs.Faults.{TextFault, no_root}
 use Rattle.lab_defs_text.specs.Steps.{◌>>=◌, each}
@@ -30,6 +31,7 @@ use Rattle.lab_world.specs.declared.place.Recall.{Recall}
 use Rattle.lab_world.specs.declared.place.WorldId.{WorldId}
 use Rattle.lab_world.specs.Drafts.{part_place_by, part_place_of, part_places_by, part_places_of, draft_of, named_draft_of, are_apart, may_assemble}
 use Rattle.lab_world.specs.Models.{place_model, parts_model}
+use Rattle.lab_world.specs.Sizes.{place_size, sizes_ok}
 use Rattle.lab_world.specs.Wholes.{all_action_names, place_fits, is_whole_game}
 use Rattle.lab_world.specs.Stages.{Rooted, rooted}
 use Rattle.lab_world.proofs.EachLemmas.{fault_first}
@@ -41,23 +43,25 @@ pub record Named (ns ts names : List Bytes) (ps : List (PartPlace (Bor Bytes))) 
   pub names_are : map draft.place_name (part_places_of names ps) ≡ names
   pub known_same : each (known_place ns ts) (part_places_of names ps) ≡ each (known_place ns ts) (map (part_place_of []) ps)
   pub ok_same : list_all part_ok (part_places_of names ps) ≡ list_all part_ok (map (part_place_of []) ps)
+  pub size_same : sum_over place_size (part_places_of names ps) ≡ sum_over place_size (map (part_place_of []) ps)
 
 -- one place more
 named_more : (ns ts : List Bytes) (n : Bytes) (p : PartPlace (Bor Bytes)) (names : List Bytes) (ps : List (PartPlace (Bor Bytes))) → draft.place_name (part_place_of n p) ≡ n → known_place ns ts (part_place_of n p) ≡ known_place ns ts (part_place_of [] p)
-    → part_ok (part_place_of n p) ≡ part_ok (part_place_of [] p) → Named ns ts names ps → Named ns ts (n ∷ names) (p ∷ ps)
-named_more ns ts n p names ps a b c r = record {
+    → part_ok (part_place_of n p) ≡ part_ok (part_place_of [] p) → place_size (part_place_of n p) ≡ place_size (part_place_of [] p) → Named ns ts names ps → Named ns ts (n ∷ names) (p ∷ ps)
+named_more ns ts n p names ps a b c s r = record {
   names_are = rw (a, r.names_are) refl;
   known_same = rw (b, r.known_same) refl;
   ok_same = rw (c, r.ok_same) refl;
+  size_same = rw (s, r.size_same) refl;
 }
 
 -- places with as many names
 pub named : (ns ts names : List Bytes) (ps : List (PartPlace (Bor Bytes))) → length names ≡ length ps → Named ns ts names ps
-named ns ts [] [] e = record { names_are = refl; known_same = refl; ok_same = refl }
+named ns ts [] [] e = record { names_are = refl; known_same = refl; ok_same = refl; size_same = refl }
 named ns ts [] (p ∷ ps) e = absurd (omega (arith, e))
 named ns ts (n ∷ names) [] e = absurd (omega (arith, e))
-named ns ts (n ∷ names) (part.World line one two rows ∷ ps) e = named_more ns ts n (part.World line one two rows) names ps refl refl refl (named ns ts names ps (omega (arith, e)))
-named ns ts (n ∷ names) (part.End line z ∷ ps) e = named_more ns ts n (part.End line z) names ps refl refl refl (named ns ts names ps (omega (arith, e)))
+named ns ts (n ∷ names) (part.World line one two rows ∷ ps) e = named_more ns ts n (part.World line one two rows) names ps refl refl refl refl (named ns ts names ps (omega (arith, e)))
+named ns ts (n ∷ names) (part.End line z ∷ ps) e = named_more ns ts n (part.End line z) names ps refl refl refl refl (named ns ts names ps (omega (arith, e)))
 
 -- ---- names in a text
 
@@ -162,16 +166,19 @@ pub record PartsFit (d : draft.Draft) : Type 0 where
   pub tokens : are_apart d.tokens ≡ true
   pub names : are_apart (map draft.place_name d.places) ≡ true
   pub places : list_all part_ok d.places ≡ true
+  pub sizes : sizes_ok d.places ≡ true
 
 -- parts that pass the test are such
 pub parts_that_fit : (d : draft.Draft) → may_assemble d ≡ true → PartsFit d
 parts_that_fit d e =
     let names = map draft.place_name d.places in
-    let a = and_parts (is_within 1 4096 d.grid) (is_within 1 32 d.horizon && (are_apart d.tokens && (are_apart names && list_all part_ok d.places))) e in
-    let b = and_parts (is_within 1 32 d.horizon) (are_apart d.tokens && (are_apart names && list_all part_ok d.places)) a.1 in
-    let c = and_parts (are_apart d.tokens) (are_apart names && list_all part_ok d.places) b.1 in
-    let f = and_parts (are_apart names) (list_all part_ok d.places) c.1 in
-    record { grid = a.0; horizon = b.0; tokens = c.0; names = f.0; places = f.1 }
+    let fine = list_all part_ok d.places && sizes_ok d.places in
+    let a = and_parts (is_within 1 4096 d.grid) (is_within 1 32 d.horizon && (are_apart d.tokens && (are_apart names && fine))) e in
+    let b = and_parts (is_within 1 32 d.horizon) (are_apart d.tokens && (are_apart names && fine)) a.1 in
+    let c = and_parts (are_apart d.tokens) (are_apart names && fine) b.1 in
+    let f = and_parts (are_apart names) fine c.1 in
+    let g = and_parts (list_all part_ok d.places) (sizes_ok d.places) f.1 in
+    record { grid = a.0; horizon = b.0; tokens = c.0; names = f.0; places = g.0; sizes = g.1 }
 
 -- parts that make a game are those of a text
 parts_are_draft : (d : draft.Draft) (g : model.GameModel) → may_assemble d ≡ true → assembled d ≡ Ok g → IsDraft done_kind d

@@ -17,6 +17,7 @@ use Rattle.lab_world.specs.declared.parts.Parts.{Parts}
 use Rattle.lab_world.specs.declared.parts.AssembleFault.{AssembleFault}
 use Rattle.lab_world.specs.declared.parts.AssembleFault.TheVariants as assemble
 use Rattle.lab_world.specs.Models.{recall_model}
+use Rattle.lab_world.specs.Sizes.{sizes_ok}
 
 -- parts by a function that gives the bytes of a name
 abbrev pub part_outcome_by : {T : Type 0} → (T → Bytes) → PartOutcome T → draft.PartOutcome
@@ -75,10 +76,12 @@ named_draft_of = draft_by name_bytes
 abbrev pub are_apart : List Bytes → Bool
 are_apart ns = list_all is_name ns && apart_after [] ns
 
--- numbers within their limits, names of tokens and of places, and places in order; there may be no token and no place
+-- numbers within their limits, names of tokens and of places, places in order, and sizes that numbers of the program hold;
+-- there may be no token and no place
 abbrev pub may_assemble : draft.Draft → Bool
 may_assemble d =
-    is_within 1 4096 d.grid && (is_within 1 32 d.horizon && (are_apart d.tokens && (are_apart (map draft.place_name d.places) && list_all part_ok d.places)))
+    is_within 1 4096 d.grid
+    && (is_within 1 32 d.horizon && (are_apart d.tokens && (are_apart (map draft.place_name d.places) && (list_all part_ok d.places && sizes_ok d.places))))
 
 -- the fault of a text that a fault of its parts is
 abbrev pub assemble_fault : AssembleFault → Option fault.TextFault

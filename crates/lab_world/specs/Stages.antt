@@ -1,5 +1,5 @@
 -- Places on the way from parts to a game, as the definitions have them.
-use Rattle.std.specs.Prelude.{ℕ, List, [], ◌∷◌, Bool, true, ◌==◌, ◌&&◌, ◌++◌, length, map, Result, Ok, Err, if◌then◌else◌}
+use Rattle.std.specs.Prelude.{ℕ, ◌^◌, nat_lt, List, [], ◌∷◌, Bool, true, ◌==◌, ◌&&◌, ◌++◌, length, map, Result, Ok, Err, if◌then◌else◌}
 use Rattle.std.specs.List.{list_all}
 use Rattle.lab_defs_text.specs.Words.{Bytes, apart_after}
 use Rattle.lab_defs_text.specs.Games as model
@@ -32,10 +32,15 @@ abbrev pub known_place_of : KnownPlace → assembly.KnownPlace
 known_place_of (known.World line one two rows) = assembly.known_world line (map name_bytes one) (map name_bytes two) (map known_row_of rows.items)
 known_place_of (known.End z) = assembly.known_end z
 
--- no action of a seat is named twice
-abbrev pub known_apart : assembly.KnownPlace → Bool
-known_apart (assembly.known_world line one two rows) = apart_after [] one && apart_after [] two
-known_apart (assembly.known_end z) = true
+-- the weights of a row together are a `u64`
+abbrev pub weights_fit : assembly.KnownRow → Bool
+weights_fit r = nat_lt (row_total r.outcomes) (2 ^ 64)
+
+-- no action of a seat is named twice, actions and rows are counted by a `u32`, and the weights of each row fit
+abbrev pub known_fits : assembly.KnownPlace → Bool
+known_fits (assembly.known_world line one two rows) =
+    (apart_after [] one && apart_after [] two) && ((nat_lt (length one) (2 ^ 32) && nat_lt (length two) (2 ^ 32)) && (nat_lt (length rows) (2 ^ 32) && list_all weights_fit rows))
+known_fits (assembly.known_end z) = true
 
 -- each number with the row beside it
 abbrev pub numbered_rows : List ℕ → List Row → List assembly.PlacedRow
@@ -58,9 +63,9 @@ total_fits r = r.total == row_total (row_model r)
 abbrev pub rows_fit : PlacedRows → Bool
 rows_fit p = length p.numbers == length p.rows.items && list_all total_fits p.rows.items
 
--- likewise the rows of a place
+-- likewise the rows of a place, whose actions are counted by a `u32`
 abbrev pub placed_fits : PlacedPlace → Bool
-placed_fits (placed.World line one two rows) = rows_fit rows
+placed_fits (placed.World line one two rows) = (nat_lt (length one) (2 ^ 32) && nat_lt (length two) (2 ^ 32)) && rows_fit rows
 placed_fits (placed.End z) = true
 
 abbrev pub placed_place_of : PlacedPlace → assembly.PlacedPlace

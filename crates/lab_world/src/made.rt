@@ -1,13 +1,14 @@
 //! Places made one after another, with the first faults of their rows.
-ghost use Rattle.std.specs.Prelude.{◌≡◌, ◌++◌, ◌∷◌, List, [], map, true, IfOk, IfErr, OnOk};
+ghost use Rattle.std.specs.Prelude.{◌≡◌, ◌+◌, ◌<◌, ◌≤◌, ◌^◌, length, ◌++◌, ◌∷◌, List, [], map, true, IfOk, IfErr, OnOk};
 ghost use Rattle.std.specs.List.{list_all};
 ghost use Rattle.lab_defs_text.specs.Agreement.{FaultAgrees};
 ghost use Rattle.lab_defs_text.specs.Parts.{part_ok};
 ghost use Rattle.lab_defs_text.specs.Steps.{each};
 ghost use Rattle.lab_defs_text.specs.Assembly as assembly;
 ghost use Rattle.lab_world.specs.Drafts.{part_place_of, assemble_fault};
+ghost use Rattle.lab_world.specs.Sizes.{sizes_ok, known_actions, placed_actions};
 ghost use Rattle.lab_world.specs.Stages.{
-  known_apart,
+  known_fits,
   known_place_of,
   placed_fits,
   placed_place_of,
@@ -30,7 +31,8 @@ pub fn made_places(
     tokens: &NameTable,
     places: Vec<PartPlace<&str>>,
 ) -> Result<MadePlaces, AssembleFault>
-    requires { list_all part_ok (map (part_place_of []) places.items) ≡ true }
+    requires fine { list_all part_ok (map (part_place_of []) places.items) ≡ true }
+    requires few { sizes_ok (map (part_place_of []) places.items) ≡ true }
     ensures made { IfOk result (λ m. MadeOf m (each (assembly.known_place names.now tokens.now) (map (part_place_of []) places.entry.items))) }
     ensures fault { IfErr result (λ e. FaultAgrees (assemble_fault e) (each (assembly.known_place names.now tokens.now) (map (part_place_of []) places.entry.items))) }
 {
@@ -51,8 +53,10 @@ pub fn made_places(
 
 // Adds a place, unless a row of an earlier one is too many.
 fn add_place(alloc: Global, made: &mut MadePlaces, place: KnownPlace<'_>) -> Result<(), AllocError>
-    requires { known_apart (known_place_of place) ≡ true }
-    ensures { OnOk result ((ks : List assembly.KnownPlace) → AreMade made.old ks → AreMade made.new (ks ++ known_place_of place.entry ∷ [])) }
+    requires fits { known_fits (known_place_of place) ≡ true }
+    requires few { length made.old.numbered.actions + known_actions (known_place_of place) < 2 ^ 32 }
+    ensures made { OnOk result ((ks : List assembly.KnownPlace) → AreMade made.old ks → AreMade made.new (ks ++ known_place_of place.entry ∷ [])) }
+    ensures few { OnOk result (length made.new.numbered.actions ≤ length made.old.numbered.actions + known_actions (known_place_of place.entry)) }
 {
     if made.extra.is_some() {
         return Ok(());
@@ -73,9 +77,11 @@ fn add_placed(
     made: &mut MadePlaces,
     place: PlacedPlace<'_>,
 ) -> Result<(), AllocError>
-    requires { placed_fits place ≡ true }
+    requires fits { placed_fits place ≡ true }
+    requires few { length made.old.numbered.actions + placed_actions (placed_place_of place) < 2 ^ 32 }
     ensures extra { made.new.extra ≡ made.old.extra }
     ensures places { OnOk result ((qs : List assembly.PlacedPlace) → AreOrdered made.old qs → AreOrdered made.new (qs ++ placed_place_of place.entry ∷ [])) }
+    ensures few { OnOk result (length made.new.numbered.actions ≤ length made.old.numbered.actions + placed_actions (placed_place_of place.entry)) }
 {
     if made.missing.is_some() {
         return Ok(());

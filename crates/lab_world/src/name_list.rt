@@ -1,5 +1,5 @@
 //! Look-up in a list of names, none of which stands twice.
-ghost use Rattle.std.specs.Prelude.{◌≡◌, [], length, map, position, true, IfOk};
+ghost use Rattle.std.specs.Prelude.{◌≡◌, ◌<◌, ◌^◌, [], length, map, position, true, IfOk};
 ghost use Rattle.std.specs.Str.{bytes_eq};
 ghost use Rattle.lab_defs_text.specs.Words.{apart_after};
 ghost use Rattle.lab_lex.specs.Names.{name_bytes};
@@ -28,9 +28,10 @@ impl<'a> Model for NameList<'a> {
 }
 
 impl<'a> NameList<'a> {
-    /// Names, none of which stands twice.
+    /// Names, none of which stands twice, by their places, each a `u32`.
     pub fn new(alloc: Global, names: &'a [&'a str]) -> Result<NameList<'a>, AllocError>
-        requires { apart_after [] (map name_bytes names.now) ≡ true }
+        requires apart { apart_after [] (map name_bytes names.now) ≡ true }
+        requires few { length names.now < 2 ^ 32 }
         ensures { IfOk result (λ l. l ≡ map name_bytes names.now) }
     {
         if names.len() <= 16 {

@@ -1,5 +1,5 @@
 //! Sets of numbers.
-ghost use Rattle.std.specs.Prelude.{◌≡◌, ◌<◌, ◌^◌, ◌++◌, ◌∷◌, [], position, false, nat_eq, IfSome, OnOk};
+ghost use Rattle.std.specs.Prelude.{◌≡◌, ◌+◌, ◌<◌, ◌^◌, ◌++◌, ◌∷◌, [], length, position, false, nat_eq, IfSome, OnOk};
 ghost use Rattle.std.specs.List.{list_any};
 
 use indexmap::IndexSet;
@@ -57,15 +57,13 @@ impl NumberSet {
 
     /// Adds a number that is not there.
     pub fn add(&mut self, number: u64) -> Result<(), AllocError>
-        requires { list_any (nat_eq number) self.old ≡ false }
+        requires new { list_any (nat_eq number) self.old ≡ false }
+        requires few { length self.old + 1 < 2 ^ 32 }
         ensures { OnOk result (self.new ≡ self.old ++ number ∷ []) }
     {
         if self.first.len() < 16 && self.others.is_empty() {
             self.first.push(number)?;
             return Ok(());
-        }
-        if self.others.len() >= u32::MAX as usize {
-            return Err(AllocError);
         }
         self.others.insert(number)?;
         Ok(())

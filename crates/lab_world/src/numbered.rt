@@ -1,18 +1,19 @@
 //! Names of actions to numbers.
-ghost use Rattle.std.specs.Prelude.{◌≡◌, ◌∷◌, ◌++◌, ◌<◌, List, [], length, map, nat_lt, true, IfOk, OnOk};
+ghost use Rattle.std.specs.Prelude.{◌≡◌, ◌+◌, ◌∷◌, ◌++◌, ◌<◌, ◌≤◌, ◌^◌, List, [], length, map, nat_lt, true, IfOk, OnOk};
 ghost use Rattle.std.specs.List.{list_all};
 ghost use Rattle.lab_defs_text.specs.Games as model;
 ghost use Rattle.lab_defs_text.specs.Texts.{name_of};
 ghost use Rattle.lab_lex.specs.Names.{name_bytes};
 ghost use Rattle.lab_world.specs.Models.{action_list, row_model, world_model, place_model};
 ghost use Rattle.lab_world.specs.Wholes.{with_new, all_action_names, place_fits};
+ghost use Rattle.lab_world.specs.Sizes.{model_actions};
 ghost use Rattle.lab_world.specs.Stages.{ordered_place_of, total_fits, totals_fit};
 ghost use Rattle.lab_world.specs.Made.{AreNumbered};
 ghost use Rattle.lab_world.specs.declared.place.Place.TheVariants as place;
 
 use super::place::{ActionId, Place, Row, World};
 use super::stages::{NumberedPlaces, OrderedPlace};
-use lab_lex::NameTable;
+use lab_lex::{NameTable, TableFault};
 use lab_seq::{Few, Seq};
 use std::alloc::{AllocError, Global};
 
@@ -22,8 +23,10 @@ pub fn add_numbered(
     found: &mut NumberedPlaces,
     place: OrderedPlace<'_>,
 ) -> Result<(), AllocError>
-    requires { totals_fit place ≡ true }
-    ensures { OnOk result ((ms : List model.Place) → AreNumbered found.old ms → AreNumbered found.new (ms ++ ordered_place_of place.entry ∷ [])) }
+    requires totals { totals_fit place ≡ true }
+    requires few { length found.old.actions + model_actions (ordered_place_of place) < 2 ^ 32 }
+    ensures numbered { OnOk result ((ms : List model.Place) → AreNumbered found.old ms → AreNumbered found.new (ms ++ ordered_place_of place.entry ∷ [])) }
+    ensures few { OnOk result (length found.new.actions ≤ length found.old.actions + model_actions (ordered_place_of place.entry)) }
 {
     let place = numbered_place(alloc, &mut found.actions, place)?;
     found.places.push(place)?;
@@ -36,7 +39,8 @@ fn numbered_place(
     actions: &mut NameTable,
     place: OrderedPlace<'_>,
 ) -> Result<Place, AllocError>
-    requires { totals_fit place ≡ true }
+    requires totals { totals_fit place ≡ true }
+    requires few { length actions.old + model_actions (ordered_place_of place) < 2 ^ 32 }
     ensures place { IfOk result (λ p. place_model actions.new p ≡ ordered_place_of place.entry) }
     ensures actions { OnOk result (actions.new ≡ all_action_names actions.old (ordered_place_of place.entry ∷ [])) }
     ensures fits { IfOk result (λ p. place_fits (length actions.new) p ≡ true) }
@@ -58,7 +62,8 @@ fn numbered_world(
     two: &[&str],
     rows: Seq<Row>,
 ) -> Result<World, AllocError>
-    requires { list_all total_fits rows ≡ true }
+    requires totals { list_all total_fits rows ≡ true }
+    requires few { length actions.old + (length one.now + length two.now) < 2 ^ 32 }
     ensures world { IfOk result (λ w. world_model actions.new w ≡ record { one = map name_bytes one.now; two = map name_bytes two.now; rows = map row_model rows }) }
     ensures actions { OnOk result (actions.new ≡ with_new (with_new actions.old (map name_bytes one.now)) (map name_bytes two.now)) }
     ensures fits { IfOk result (λ w. place_fits (length actions.new) (place.World w) ≡ true) }
@@ -74,6 +79,7 @@ fn action_ids(
     actions: &mut NameTable,
     names: &[&str],
 ) -> Result<Few<ActionId>, AllocError>
+    requires { length actions.old + length names.now < 2 ^ 32 }
     ensures table { OnOk result (actions.new ≡ with_new actions.old (map name_bytes names.now)) }
     ensures ids { IfOk result (λ ids. action_list actions.new ids ≡ map name_bytes names.now) }
     ensures below { IfOk result (λ ids. list_all (λ (i : ActionId). nat_lt i.0 (length actions.new)) ids ≡ true) }
@@ -90,6 +96,7 @@ fn id_list(
     actions: &mut NameTable,
     names: &[&str],
 ) -> Result<Vec<ActionId>, AllocError>
+    requires { length actions.old + length names.now < 2 ^ 32 }
     ensures table { OnOk result (actions.new ≡ with_new actions.old (map name_bytes names.now)) }
     ensures ids { IfOk result (λ ids. action_list actions.new ids.items ≡ map name_bytes names.now) }
     ensures below { IfOk result (λ ids. list_all (λ (i : ActionId). nat_lt i.0 (length actions.new)) ids.items ≡ true) }
@@ -104,18 +111,14 @@ fn id_list(
 
 // The number of a name, which is added where it is new.
 fn action_id(actions: &mut NameTable, name: &str) -> Result<ActionId, AllocError>
+    requires { length actions.old + 1 < 2 ^ 32 }
     ensures table { OnOk result (actions.new ≡ with_new actions.old (name.now ∷ [])) }
     ensures id { IfOk result (λ i. name_of actions.new i.0 ≡ name.now) }
     ensures below { IfOk result (λ i. i.0 < length actions.new) }
 {
-    if let Some(number) = actions.find(name) {
-        return Ok(ActionId(number));
-    }
-    if actions.count() == u32::MAX {
-        return Err(AllocError);
-    }
     match actions.add(name) {
         Ok(number) => Ok(ActionId(number)),
-        Err(_) => Err(AllocError),
+        Err(TableFault::Twice { number }) => Ok(ActionId(number)),
+        Err(TableFault::Memory) => Err(AllocError),
     }
 }

@@ -56,7 +56,7 @@ pub fn ordered_place<'a>(
             two,
             rows,
         } => {
-            let rows = rows_in_order(alloc, line, one.len(), two.len(), rows)?;
+            let rows = rows_in_order(alloc, line, one.len() as u32, two.len() as u32, rows)?;
             Ok(OrderedPlace::World {
                 one,
                 two,
@@ -71,21 +71,18 @@ pub fn ordered_place<'a>(
 fn rows_in_order(
     alloc: Global,
     line: u32,
-    one: usize,
-    two: usize,
+    one: u32,
+    two: u32,
     placed: PlacedRows,
 ) -> Result<Vec<Row>, AssembleFault>
     requires { rows_fit placed ≡ true }
     ensures rows { Agrees (λ v. map row_model v.items) assemble_fault result (each (row_at line two (placed_rows_of placed)) (range_with_len 0 (one * two))) }
     ensures totals { IfOk result (λ v. list_all total_fits v.items ≡ true) }
 {
-    let (Ok(firsts), Ok(seconds)) = (u32::try_from(one), u32::try_from(two)) else {
-        return Err(AssembleFault::Memory);
-    };
-    if placed.rows.len() as u64 == firsts as u64 * seconds as u64 && placed.numbers.are_in_order() {
+    if placed.rows.len() as u64 == one as u64 * two as u64 && placed.numbers.are_in_order() {
         return Ok(placed.rows);
     }
-    rows_by_number(alloc, line, firsts, seconds, placed)
+    rows_by_number(alloc, line, one, two, placed)
 }
 
 // The rows of a world by the numbers of their joint actions. It stops at the first that is missing, so it takes no more than

@@ -1,5 +1,6 @@
 //! Rows to their joint actions.
-ghost use Rattle.std.specs.Prelude.{◌≡◌, [], map, true, IfOk, IfSome, OnOk};
+ghost use Rattle.std.specs.Prelude.{◌≡◌, ◌+◌, ◌<◌, ◌^◌, [], length, map, true, IfOk, OnOk};
+ghost use Rattle.std.specs.List.{list_all};
 ghost use Rattle.lab_defs_text.specs.Words.{apart_after};
 ghost use Rattle.lab_defs_text.specs.Agreement.{Agrees};
 ghost use Rattle.lab_defs_text.specs.Assembly.{action_of, place_rows as rows_placed, placed};
@@ -9,7 +10,8 @@ ghost use Rattle.lab_world.specs.Drafts.{assemble_fault};
 ghost use Rattle.lab_world.specs.Models.{row_model};
 ghost use Rattle.lab_world.specs.Stages.{
   outcomes_model,
-  known_apart,
+  known_fits,
+  weights_fit,
   known_row_of,
   known_place_of,
   placed_rows_of,
@@ -34,7 +36,7 @@ pub fn placed_place<'a>(
     alloc: Global,
     place: KnownPlace<'a>,
 ) -> Result<PlacedPlace<'a>, AssembleFault>
-    requires { known_apart (known_place_of place) ≡ true }
+    requires { known_fits (known_place_of place) ≡ true }
     ensures place { Agrees placed_place_of assemble_fault result (placed (known_place_of place.entry)) }
     ensures fit { IfOk result (λ p. placed_fits p ≡ true) }
 {
@@ -66,6 +68,10 @@ fn rows_in_world(
 ) -> Result<PlacedRows, AssembleFault>
     requires one { apart_after [] (map name_bytes one.now) ≡ true }
     requires two { apart_after [] (map name_bytes two.now) ≡ true }
+    requires few_one { length one.now < 2 ^ 32 }
+    requires few_two { length two.now < 2 ^ 32 }
+    requires few_rows { length rows.items < 2 ^ 32 }
+    requires weights { list_all weights_fit (map known_row_of rows.items) ≡ true }
     ensures rows { Agrees placed_rows_of assemble_fault result (rows_placed (map name_bytes one.now) (map name_bytes two.now) [] (map known_row_of rows.entry.items)) }
     ensures fit { IfOk result (λ p. rows_fit p ≡ true) }
 {
@@ -76,7 +82,8 @@ fn rows_in_world(
 
 /// A table of names, none of which stands twice.
 pub fn table_of(alloc: Global, names: &[&str]) -> Result<NameTable, AllocError>
-    requires { apart_after [] (map name_bytes names.now) ≡ true }
+    requires apart { apart_after [] (map name_bytes names.now) ≡ true }
+    requires few { length names.now < 2 ^ 32 }
     ensures { IfOk result (λ t. t ≡ map name_bytes names.now) }
 {
     let Ok(mut table) = NameTable::new(alloc) else {
@@ -84,9 +91,6 @@ pub fn table_of(alloc: Global, names: &[&str]) -> Result<NameTable, AllocError>
     };
     for i in 0..names.len() {
         let name = names[i];
-        if table.count() == u32::MAX {
-            return Err(AllocError);
-        }
         match table.add(name) {
             Ok(_) => {}
             Err(TableFault::Twice { .. }) => unreachable!(),
@@ -103,6 +107,8 @@ fn place_rows(
     two: &NameList<'_>,
     rows: Vec<KnownRow<'_>>,
 ) -> Result<PlacedRows, AssembleFault>
+    requires few { length rows.items < 2 ^ 32 }
+    requires weights { list_all weights_fit (map known_row_of rows.items) ≡ true }
     ensures rows { Agrees placed_rows_of assemble_fault result (rows_placed one.now two.now [] (map known_row_of rows.entry.items)) }
     ensures fit { IfOk result (λ p. rows_fit p ≡ true) }
 {
@@ -124,39 +130,42 @@ fn place_row(
     two: &NameList<'_>,
     row: KnownRow<'_>,
 ) -> Result<(), AssembleFault>
-    requires { rows_fit found.old ≡ true }
+    requires fit { rows_fit found.old ≡ true }
+    requires few { length found.old.rows.items + 1 < 2 ^ 32 }
+    requires weights { weights_fit (known_row_of row) ≡ true }
     ensures row { Agrees (λ _. placed_rows_of found.new) assemble_fault result (with_row one.now two.now (placed_rows_of found.old) (known_row_of row.entry)) }
     ensures fit { OnOk result (rows_fit found.new ≡ true) }
+    ensures count { OnOk result (length found.new.rows.items ≡ length found.old.rows.items + 1) }
 {
     let number = joint_action(one, two, &row)?;
     if found.numbers.contains(number) {
         return Err(AssembleFault::ExtraRow { line: row.line });
     }
     found.numbers.add(number)?;
-    found.rows.push(whole_row(row.outcomes)?)?;
+    found.rows.push(whole_row(row.outcomes))?;
     Ok(())
 }
 
 // The row with these outcomes and the total of their weights.
-fn whole_row(outcomes: Few<Outcome>) -> Result<Row, AllocError>
-    ensures outcomes { IfOk result (λ r. row_model r ≡ outcomes_model outcomes) }
-    ensures total { IfOk result (λ r. total_fits r ≡ true) }
+fn whole_row(outcomes: Few<Outcome>) -> Row
+    requires { row_total (outcomes_model outcomes) < 2 ^ 64 }
+    ensures outcomes { row_model result ≡ outcomes_model outcomes }
+    ensures total { total_fits result ≡ true }
 {
-    let Some(total) = total_of(outcomes.as_slice()) else {
-        return Err(AllocError);
-    };
-    Ok(Row { total, outcomes })
+    let total = total_of(outcomes.as_slice());
+    Row { total, outcomes }
 }
 
-// The weights together; `None` past `u64`, for which no memory holds enough outcomes.
-fn total_of(outcomes: &[Outcome]) -> Option<u64>
-    ensures { IfSome result (λ n. n ≡ row_total (outcomes_model outcomes.now)) }
+// The weights together.
+fn total_of(outcomes: &[Outcome]) -> u64
+    requires { row_total (outcomes_model outcomes.now) < 2 ^ 64 }
+    ensures { result ≡ row_total (outcomes_model outcomes.now) }
 {
-    let mut total = 0u64;
+    let mut total = 0;
     for outcome in outcomes {
-        total = total.checked_add(outcome.weight as u64)?;
+        total += outcome.weight as u64;
     }
-    Some(total)
+    total
 }
 
 // The number of a row's joint action.

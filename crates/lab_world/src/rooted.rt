@@ -6,6 +6,7 @@ ghost use Rattle.lab_defs_text.specs.Words.{Bytes};
 ghost use Rattle.lab_defs_text.specs.Assembly.{is_world_at};
 ghost use Rattle.lab_defs_text.specs.Parts.{part_ok};
 ghost use Rattle.lab_world.specs.Drafts.{part_place_of, assemble_fault};
+ghost use Rattle.lab_world.specs.Sizes.{sizes_ok};
 ghost use Rattle.lab_world.specs.Models.{place_model};
 ghost use Rattle.lab_world.specs.Stages.{rooted_of, rooted};
 ghost use Rattle.lab_world.specs.Made.{AreNumbered};
@@ -27,7 +28,8 @@ pub fn rooted_places(
     line: u32,
     root: &str,
 ) -> Result<RootedPlaces, AssembleFault>
-    requires { list_all part_ok (map (part_place_of []) places.items) ≡ true }
+    requires fine { list_all part_ok (map (part_place_of []) places.items) ≡ true }
+    requires few { sizes_ok (map (part_place_of []) places.items) ≡ true }
     ensures places { Agrees rooted_of assemble_fault result (rooted names.now tokens.now line root.now (map (part_place_of []) places.entry.items)) }
     ensures numbered { IfOk result (λ r. AreNumbered r.numbered (rooted_of r).places) }
 {

@@ -1,5 +1,5 @@
 //! Numbers of rows that mostly come in order.
-ghost use Rattle.std.specs.Prelude.{◌≡◌, ◌++◌, ◌∷◌, [], length, position, true, false, nat_eq, OnOk, IfOk};
+ghost use Rattle.std.specs.Prelude.{◌≡◌, ◌+◌, ◌<◌, ◌^◌, ◌++◌, ◌∷◌, [], length, position, true, false, nat_eq, OnOk, IfOk};
 ghost use Rattle.std.specs.List.{list_any, range_with_len};
 
 use super::number_set::NumberSet;
@@ -75,12 +75,13 @@ impl RowNumbers {
 
     /// Adds a number that is not there.
     pub fn add(&mut self, number: u64) -> Result<(), AllocError>
-        requires { list_any (nat_eq number) self.old ≡ false }
+        requires new { list_any (nat_eq number) self.old ≡ false }
+        requires few { length self.old + 1 < 2 ^ 32 }
         ensures { OnOk result (self.new ≡ self.old ++ number ∷ []) }
     {
         match &mut self.others {
             None => {
-                if number == self.in_order as u64 && number < u32::MAX as u64 {
+                if number == self.in_order as u64 {
                     self.in_order += 1;
                     return Ok(());
                 }

@@ -1,4 +1,4 @@
-use Rattle.std.proofs.Common.{◌≡◌, ◌+◌, ◌∙◌, ◌++◌, [], List, sym, ap, subst, true, map, drop, get_or, length, arith}
+use Rattle.std.proofs.Common.{◌≡◌, ◌+◌, ◌∙◌, ◌++◌, ◌∷◌, [], List, sym, ap, subst, true, map, drop, get_or, length, arith}
 use Rattle.std.specs.Borrow.{Bor}
 use Rattle.std.proofs.lemmas.List.{drop_more}
 use Rattle.lab_defs_text.specs.Words.{Bytes}
@@ -6,7 +6,7 @@ use Rattle.lab_lex.specs.Names.{name_bytes}
 use Rattle.lab_world.specs.declared.place.ActionId.{ActionId}
 use Rattle.lab_world.specs.Models.{action_list}
 use Rattle.lab_world.specs.Wholes.{with_new}
-use Rattle.lab_world.proofs.ActionNameLemmas.{ids_below, action_list_push, ids_below_push}
+use Rattle.lab_world.proofs.ActionNameLemmas.{with_new_few, ids_below, action_list_push, ids_below_push}
 use Rattle.lab_world.proofs.numbered.id_list.Goals as goal
 
 pub loop-i-preserved : goal.loop-i-preserved
@@ -29,4 +29,5 @@ loop-i-preserved c =
           ∙ ap (λ (ns : List Bytes). action_list c.loop-i.actions c.loop-i.ids.items ++ ns) (sym names) ∙ c.loop-i.invariant.ids;
       below = subst (λ (is : List ActionId). ids_below (length after) is ≡ true) (sym items)
           (ids_below_push c.loop-i.actions after name c.loop-i.ids.items id made c.loop-i.invariant.below c.in_ok-action_id.ensures.below);
+      few = let more = with_new_few c.loop-i.actions (name ∷ []) in let grown = ap length made in let before = c.loop-i.invariant.few in omega (arith, more, grown, before);
     }

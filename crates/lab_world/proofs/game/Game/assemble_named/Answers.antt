@@ -1,4 +1,4 @@
-use Rattle.std.proofs.Common.{◌≡◌, [], List, Result, Err, map, true, ap, sym, subst, ◌∙◌}
+use Rattle.std.proofs.Common.{◌≡◌, ◌^◌, nat_lt, [], List, Result, Err, map, true, ap, sym, subst, ◌∙◌}
 use Rattle.std.specs.List.{list_all}
 use Rattle.std.specs.Borrow.{Bor}
 use Rattle.std.proofs.lemmas.Result.{err_from_is_err_and}
@@ -13,16 +13,23 @@ use Rattle.lab_world.specs.declared.game.Game.{Game}
 use Rattle.lab_world.specs.Drafts.{part_place_of, named_draft_of, assemble_fault}
 use Rattle.lab_world.specs.Games.{game_model}
 use Rattle.lab_world.specs.Models.{place_model}
+use Rattle.lab_world.specs.Sizes.{sizes_ok}
 use Rattle.lab_world.specs.Wholes.{all_action_names, place_fits}
 use Rattle.lab_world.specs.Stages.{Rooted, rooted_of}
 use Rattle.lab_world.proofs.PartLemmas.{named, parts_that_fit, rooted_same, assembled_game, assembled_fault, whole_is}
 use Rattle.lab_world.proofs.game.Game.assemble_named.Goals as goal
 
-pub rooted_places-requires : goal.rooted_places-requires
-rooted_places-requires c =
+pub rooted_places-requires-clause-fine : goal.rooted_places-requires-clause-fine
+rooted_places-requires-clause-fine c =
     let p = c.args.parts in
     subst (λ (ps : List (PartPlace (Bor Bytes))). list_all part_ok (map (part_place_of []) ps) ≡ true) (sym c.into_vec.ensures)
     (sym (named [] [] p.names p.places c.requires.named).ok_same ∙ (parts_that_fit (named_draft_of p) c.requires.fit).places)
+
+pub rooted_places-requires-clause-few : goal.rooted_places-requires-clause-few
+rooted_places-requires-clause-few c =
+    let p = c.args.parts in
+    subst (λ (ps : List (PartPlace (Bor Bytes))). sizes_ok (map (part_place_of []) ps) ≡ true) (sym c.into_vec.ensures)
+    (ap (λ n. nat_lt n (2 ^ 32)) (sym (named [] [] p.names p.places c.requires.named).size_same) ∙ (parts_that_fit (named_draft_of p) c.requires.fit).sizes)
 
 pub returns-in_err-numbered : goal.returns-in_err-numbered
 returns-in_err-numbered c =
