@@ -9,7 +9,7 @@ use Rattle.lab_defs_game.specs.Histories as model
 use Rattle.lab_defs_game.proofs.FormLemmas.{unit_whole}
 use Rattle.lab_defs_game.proofs.GameLemmas.{steps_inner, inner_has}
 use Rattle.lab_defs_game.proofs.Legal.{length_push, history_legal, step_from}
-use Rattle.lab_unfold.proofs.ParentLemmas.{history_at, Behind}
+use Rattle.lab_unfold.specs.Parents.{history_at, Behind}
 use Rattle.lab_unfold.proofs.UnitLemmas.{chance_unit_some}
 
 -- the total of the row of a step out of the place n

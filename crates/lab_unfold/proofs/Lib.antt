@@ -8,3 +8,9 @@ pub mod ChanceLemmas
 pub mod BirthLemmas
 pub mod FaultLemmas
 pub mod StepLemmas
+pub mod StepItems
+pub mod TraceLemmas
+pub mod ListLemmas
+pub mod KeyedLemmas
+pub mod AlikeLemmas
+pub mod CallerLemmas

@@ -19,13 +19,10 @@ use Rattle.lab_defs_game.proofs.NumberLemmas.{number_lt, at_number}
 use Rattle.lab_unfold.specs.declared.history.HistoryId.{HistoryId}
 use Rattle.lab_unfold.specs.declared.history.History.{History}
 use Rattle.lab_unfold.specs.declared.history.Step.{Step}
+use Rattle.lab_unfold.specs.Parents.{history_at, Behind}
 use Rattle.lab_unfold.specs.Values.{step_in, step_model, last_step, history_number, before_last, parent_in, history_in}
 use Rattle.lab_unfold.proofs.PayoffLemmas.{greatest_small}
 use Rattle.lab_unfold.proofs.LevelLemmas.{ascending, number_is, last_is, parent_push}
-
--- the history with a number
-abbrev pub history_at : GameModel → ℕ → model.History
-history_at g i = get_or (model.histories g) i []
 
 -- what is read at a number
 pub read_is : (g : GameModel) (i : ℕ) (items : List History) (d : History) → items ≡ map (history_in g) (model.histories g) → i < length items → get_or items i d ≡ history_in g (history_at g i)
@@ -44,14 +41,7 @@ told_at g f j n told d e l h =
     ∙ get_or-map f (take n (model.histories g)) j [] d (omega (arith, l, h, length-take-le n (model.histories g) h))
     ∙ ap f (get_or-take n (model.histories g) j [] l)
 
--- the history j is the one with the number i without the last step
-pub record Behind (g : GameModel) (i j : ℕ) : Type 0 where
-  pub step : model.Step
-  pub below : j < i
-  pub made : history_at g i ≡ history_at g j ++ step ∷ []
-  pub legal : In step (model.steps_of (model.place_of g (history_at g j)))
-
--- a history with one more step stands behind
+-- a history with one more step comes after it
 longer_behind : (h : model.History) (s : model.Step) → history_cmp h (h ++ s ∷ []) ≡ Less
 longer_behind h s =
     ap (λ o. ordering_then o (slice_cmp step_cmp h (h ++ s ∷ []))) (nat_cmp-less (length h) (length (h ++ s ∷ [])) (omega (arith, length_push h s)))

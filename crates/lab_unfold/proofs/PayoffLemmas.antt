@@ -1,8 +1,10 @@
--- The greatest payoff of the histories that end, and of all.
-use Rattle.std.proofs.Common.{◌≡◌, ℕ, ◌≤◌, List, [], ◌∷◌, length, drop, map, filter, Bool, cond, refl, sym, ap, ◌∙◌, arith, inl, inr}
+-- What histories pay, and the greatest payoff of those that end and of all.
+use Rattle.std.proofs.Common.{◌≡◌, ℕ, ◌+◌, ◌<◌, ◌≤◌, List, [], ◌∷◌, ◌++◌, length, get_or, drop, take, map, filter, Bool, cond, refl, sym, ap, ◌∙◌, arith, inl, inr}
 use Rattle.std.specs.Prelude.{max, not}
 use Rattle.std.specs.Int.RustNames.{unsigned_abs}
 use Rattle.std.proofs.Math.ListN.{drop_of_length-le}
+use Rattle.std.proofs.lemmas.List.{map-append, take_more}
+use Rattle.std.proofs.lemmas.Simd.{map-map}
 use Rattle.lab_math.proofs.Members.{In}
 use Rattle.lab_math.specs.Sums.{greatest_over}
 use Rattle.lab_defs_text.specs.Games.{GameModel, Place, a_world, an_end}
@@ -52,3 +54,17 @@ top_is g items e = ap (greatest_over (λ (h : History). unsigned_abs (model.payo
 pub greatest_small : {X : Type 0} (f : X → ℕ) (m : ℕ) (xs : List X) → ((x : X) → In x xs → f x ≤ m) → greatest_over f xs ≤ m
 greatest_small f m [] e = omega arith
 greatest_small f m (x ∷ xs) e = omega (arith, e x (inl refl), greatest_small f m xs (λ y i. e y (inr i)))
+
+-- what the places where histories lead pay
+pub payoffs_are : (g : GameModel) (items : List History) → items ≡ map (history_in g) (model.histories g)
+    → map (λ (h : History). model.payoff_at (place_at g h.world.0)) items ≡ map (model.payoff g) (model.histories g)
+payoffs_are g items e =
+    ap (map (λ (h : History). model.payoff_at (place_at g h.world.0))) e ∙ map-map (λ (h : History). model.payoff_at (place_at g h.world.0)) (history_in g) (model.histories g)
+
+-- those of one more history
+pub payoffs_more : (g : GameModel) (items : List History) (i : ℕ) (d : History) → i < length items
+    → map (λ (h : History). model.payoff_at (place_at g h.world.0)) (take (i + 1) items)
+    ≡ map (λ (h : History). model.payoff_at (place_at g h.world.0)) (take i items) ++ model.payoff_at (place_at g (get_or items i d).world.0) ∷ []
+payoffs_more g items i d l =
+    ap (map (λ (h : History). model.payoff_at (place_at g h.world.0))) (take_more items i d l)
+    ∙ map-append (λ (h : History). model.payoff_at (place_at g h.world.0)) (take i items) (get_or items i d ∷ [])

@@ -1,5 +1,5 @@
 -- The steps of histories by their parents and last steps.
-use Rattle.std.proofs.Common.{◌≡◌, ℕ, zero, suc, ◌+◌, ◌<◌, List, [], ◌∷◌, ◌++◌, length, map, take, drop, Option, Some, None, refl, sym, ap, ◌∙◌, subst, arith}
+use Rattle.std.proofs.Common.{◌≡◌, ℕ, ℤ, zero, suc, ◌+◌, ◌<◌, List, [], ◌∷◌, ◌++◌, length, map, take, drop, Option, Some, None, refl, sym, ap, ◌∙◌, subst, arith}
 use Rattle.std.specs.Prelude.{IfSome, IfNone}
 use Rattle.std.proofs.lemmas.List.{drop_more, take_more, get_or-take, take_all}
 use Rattle.std.proofs.Math.ListN.{drop_of_length-le}
@@ -11,10 +11,12 @@ use Rattle.lab_unfold.specs.declared.history.HistoryId.{HistoryId}
 use Rattle.lab_unfold.specs.declared.history.History.{History}
 use Rattle.lab_unfold.specs.declared.history.Scale.{Scale}
 use Rattle.lab_unfold.specs.declared.history.Step.{Step}
+use Rattle.lab_unfold.specs.Firsts.{node_first, set_first}
 use Rattle.lab_unfold.specs.Births.{IsChild, TellLonger}
 use Rattle.lab_unfold.specs.Values.{step_model, last_step, parent_in, history_in, steps_behind, all_steps, IsLonger, Unfolded, unfolded, scale_in}
 use Rattle.lab_unfold.proofs.LevelLemmas.{number_is, last_is, parent_push}
-use Rattle.lab_unfold.proofs.ParentLemmas.{history_at, read_is, read_behind, read_step, step_same, parent_found, no_parent, all_length}
+use Rattle.lab_unfold.specs.Parents.{history_at}
+use Rattle.lab_unfold.proofs.ParentLemmas.{read_is, read_behind, read_step, step_same, parent_found, no_parent, all_length}
 
 -- the steps of the history with a number, those of the histories before it being known
 behind_is : (g : GameModel) (n : ℕ) → n < length (model.histories g) → steps_behind (take n (model.histories g)) (parent_in g (history_at g n)) (last_step (history_at g n)) ≡ history_at g n
@@ -91,14 +93,34 @@ pub longer_none : (items : List History) (id : HistoryId) (s : Step) (r : Option
 longer_none items id s None tell l c = λ k h. c k ((tell id s k l).1 h)
 longer_none items id s (Some k) tell l c = tt
 
+-- what is told of the histories
+pub record AreTold (g : GameModel) (chances : List ℕ) (payoffs : List ℤ) (nodes sets1 sets2 : List ℕ) : Type 0 where
+  pub chances_are : chances ≡ map (chance g) (model.histories g)
+  pub payoffs_are : payoffs ≡ map (model.payoff g) (model.histories g)
+  pub nodes_are : nodes ≡ map (node_first g) (model.histories g)
+  pub first_are : sets1 ≡ map (set_first g 1) (model.histories g)
+  pub second_are : sets2 ≡ map (set_first g 2) (model.histories g)
+
 -- what a game unfolds to, from its parts
-pub value_is : (g : GameModel) (items : List History) (told : List ℕ) (s : Scale) → items ≡ map (history_in g) (model.histories g) → told ≡ map (chance g) (model.histories g) → s ≡ scale_in g
-    → ◌≡◌ {A = Unfolded} (record { histories = all_steps [] items; items = items; chances = told; scale = s }) (unfolded g)
-value_is g items told s e c k =
-    ap (λ hs. made hs items told s) (steps_are g items e)
-    ∙ ap (λ is. made (model.histories g) is told s) e
-    ∙ ap (λ cs. made (model.histories g) (map (history_in g) (model.histories g)) cs s) c
-    ∙ ap (made (model.histories g) (map (history_in g) (model.histories g)) (map (chance g) (model.histories g))) k
+pub value_is : (g : GameModel) (items : List History) (chances : List ℕ) (payoffs : List ℤ) (nodes sets1 sets2 : List ℕ) (s : Scale) → items ≡ map (history_in g) (model.histories g)
+    → AreTold g chances payoffs nodes sets1 sets2 → s ≡ scale_in g
+    → ◌≡◌ {A = Unfolded}
+    (record { histories = all_steps [] items; items = items; chances = chances; payoffs = payoffs; node_firsts = nodes; set_firsts1 = sets1; set_firsts2 = sets2; scale = s }) (unfolded g)
+value_is g items cs ps ns one two s e t k =
+    ap (λ hs. made hs items cs ps ns one two s) (steps_are g items e)
+    ∙ ap (λ is. made hs is cs ps ns one two s) e
+    ∙ ap (λ cs. made hs is cs ps ns one two s) t.chances_are
+    ∙ ap (λ ps. made hs is (map (chance g) hs) ps ns one two s) t.payoffs_are
+    ∙ ap (λ ns. made hs is (map (chance g) hs) (map (model.payoff g) hs) ns one two s) t.nodes_are
+    ∙ ap (λ one. made hs is (map (chance g) hs) (map (model.payoff g) hs) (map (node_first g) hs) one two s) t.first_are
+    ∙ ap (λ two. made hs is (map (chance g) hs) (map (model.payoff g) hs) (map (node_first g) hs) (map (set_first g 1) hs) two s) t.second_are
+    ∙ ap (made hs is (map (chance g) hs) (map (model.payoff g) hs) (map (node_first g) hs) (map (set_first g 1) hs) (map (set_first g 2) hs)) k
   where
-    made : List model.History → List History → List ℕ → Scale → Unfolded
-    made hs is cs k = record { histories = hs; items = is; chances = cs; scale = k }
+    hs : List model.History
+    hs = model.histories g
+
+    is : List History
+    is = map (history_in g) hs
+
+    made : List model.History → List History → List ℕ → List ℤ → List ℕ → List ℕ → List ℕ → Scale → Unfolded
+    made hs is cs ps ns one two k = record { histories = hs; items = is; chances = cs; payoffs = ps; node_firsts = ns; set_firsts1 = one; set_firsts2 = two; scale = k }

@@ -1,6 +1,11 @@
+pub mod Firsts
 pub mod Values
 pub mod Children
 pub mod Levels
 pub mod Faults
 pub mod Units
 pub mod Births
+pub mod Items
+pub mod Traces
+pub mod Links
+pub mod Parents

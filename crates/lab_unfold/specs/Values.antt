@@ -1,5 +1,5 @@
 -- What a game unfolds to.
-use Rattle.std.specs.Prelude.{◌≡◌, ◌<◌, ℕ, List, [], ◌∷◌, ◌++◌, length, map, slice_index_or, Option, Some, None}
+use Rattle.std.specs.Prelude.{◌≡◌, ◌<◌, ℕ, List, [], ◌∷◌, ◌++◌, length, map, slice_index_or, Option, Some, None, ℤ}
 use Rattle.lab_defs_text.specs.Games.{GameModel}
 use Rattle.lab_defs_game.specs.Keys.{number_of}
 use Rattle.lab_defs_game.specs.Laws.{history_cmp}
@@ -7,6 +7,7 @@ use Rattle.lab_defs_game.specs.Histories as model
 use Rattle.lab_defs_game.specs.Sets.{most_decisions}
 use Rattle.lab_defs_game.specs.Chance as chances
 use Rattle.lab_defs_game.specs.Unfolding.{top_payoff}
+use Rattle.lab_unfold.specs.Firsts.{node_first, set_first}
 use Rattle.lab_unfold.specs.declared.history.HistoryId.{HistoryId}
 use Rattle.lab_unfold.specs.declared.history.Step.{Step}
 use Rattle.lab_unfold.specs.declared.history.History.{History}
@@ -59,11 +60,15 @@ abbrev pub all_steps : List model.History → List History → List model.Histor
 all_steps known [] = known
 all_steps known (h ∷ hs) = all_steps (known ++ steps_behind known h.parent h.step ∷ []) hs
 
--- the histories of a game in order as the lists of their steps, and as the program has them, the chance of each with the units of all later steps, and the scale
+-- the histories of a game in order as the lists of their steps, and as the program has them; of each its chance with the units of all later steps, what it pays seat 1, and the numbers of the first histories of its node and of its information sets for seat 1 and for seat 2; and the scale
 pub record Unfolded : Type 0 where
   pub histories : List model.History
   pub items : List History
   pub chances : List ℕ
+  pub payoffs : List ℤ
+  pub node_firsts : List ℕ
+  pub set_firsts1 : List ℕ
+  pub set_firsts2 : List ℕ
   pub scale : Scale
 
 abbrev pub unfolded : GameModel → Unfolded
@@ -71,6 +76,10 @@ unfolded g = record {
   histories = model.histories g;
   items = map (history_in g) (model.histories g);
   chances = map (chances.chance g) (model.histories g);
+  payoffs = map (model.payoff g) (model.histories g);
+  node_firsts = map (node_first g) (model.histories g);
+  set_firsts1 = map (set_first g 1) (model.histories g);
+  set_firsts2 = map (set_first g 2) (model.histories g);
   scale = scale_in g;
 }
 

@@ -10,7 +10,8 @@ use Rattle.lab_unfold.specs.declared.history.History.{History}
 use Rattle.lab_unfold.specs.declared.history.Step.{Step}
 use Rattle.lab_unfold.specs.Values.{step_model}
 use Rattle.lab_world.proofs.CallerLemmas.{whole_parts}
-use Rattle.lab_unfold.proofs.ParentLemmas.{history_at, read_is, read_behind, read_first, read_step, step_same, all_length, told_at}
+use Rattle.lab_unfold.specs.Parents.{history_at}
+use Rattle.lab_unfold.proofs.ParentLemmas.{read_is, read_behind, read_first, read_step, step_same, all_length, told_at}
 use Rattle.lab_unfold.proofs.ChanceLemmas.{chance_behind, chance_first}
 use Rattle.lab_unfold.proofs.chances.next_chance.Goals as goal
 

@@ -6,7 +6,8 @@ use Rattle.lab_defs_game.specs.Sets.{decisions_from}
 use Rattle.lab_world.specs.Games.{game_model}
 use Rattle.lab_unfold.specs.declared.history.History.{History}
 use Rattle.lab_world.proofs.CallerLemmas.{horizon_small}
-use Rattle.lab_unfold.proofs.ParentLemmas.{history_at, read_is, read_behind, read_first, all_length, told_at, decisions_behind, decisions_small}
+use Rattle.lab_unfold.specs.Parents.{history_at}
+use Rattle.lab_unfold.proofs.ParentLemmas.{read_is, read_behind, read_first, all_length, told_at, decisions_behind, decisions_small}
 use Rattle.lab_unfold.proofs.decisions.next_count.Goals as goal
 
 pub returns-in_default : goal.returns-in_default

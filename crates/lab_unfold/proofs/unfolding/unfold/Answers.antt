@@ -1,10 +1,7 @@
 use Rattle.std.proofs.Common.{◌∙◌}
 use Rattle.lab_world.specs.Games.{game_model}
 use Rattle.lab_unfold.specs.Faults.{IsFault}
-use Rattle.lab_world.proofs.CallerLemmas.{horizon_some}
-use Rattle.lab_unfold.proofs.BirthLemmas.{births_sorted}
 use Rattle.lab_unfold.proofs.FaultLemmas.{horizon_found, size_decides, size_reason, handed_on}
-use Rattle.lab_unfold.proofs.StepLemmas.{steps_tell, value_is}
 use Rattle.lab_unfold.proofs.unfolding.unfold.Goals as goal
 
 pub returns-in-Some-clause-fault : goal.returns-in-Some-clause-fault
@@ -18,19 +15,8 @@ returns-in_err-scale-clause-fault c =
     let decides = size_decides g c.deref.result.now c.in_ok-items.field-0.last (c.deref.ensures.value ∙ c.in_ok-items.ensures.items) c.in_ok-items.ensures.last c.in_ok-items.ensures.none c.in_default.ensures in
     handed_on c.from_residual-in_err-scale.result c.in_err-scale.field-0.0 (IsFault g) c.from_residual-in_err-scale.ensures.1 (size_reason g c.in_err-scale.field-0.0 decides c.in_err-scale.ensures.fault)
 
-pub new-requires-clause-order : goal.new-requires-clause-order
-new-requires-clause-order c = births_sorted (game_model c.args.game.now) c.in_ok-items.field-0.items.items (horizon_some c.args.game.now) c.in_ok-items.ensures.items
-
 pub returns-clause-none : goal.returns-clause-none
 returns-clause-none c =
     size_decides (game_model c.args.game.now) c.deref.result.now c.in_ok-items.field-0.last (c.deref.ensures.value ∙ c.in_ok-items.ensures.items) c.in_ok-items.ensures.last
     c.in_ok-items.ensures.none c.in_default.ensures
     ∙ c.in_ok-scale.ensures.none
-
-pub new-requires-clause-steps : goal.new-requires-clause-steps
-new-requires-clause-steps c = steps_tell (game_model c.args.game.now) c.in_ok-items.field-0.items.items c.in_ok-items.ensures.items
-
-pub returns-clause-value : goal.returns-clause-value
-returns-clause-value c =
-    c.new.ensures
-    ∙ value_is (game_model c.args.game.now) c.in_ok-items.field-0.items.items c.in-Ok.chances.items c.in_ok-scale.scale c.in_ok-items.ensures.items c.in-Ok.ensures c.in_ok-scale.ensures.value

@@ -1,5 +1,0 @@
-pub mod Items
-pub mod Firsts
-pub mod SetFirsts
-pub mod Traces
-pub mod Links

@@ -1,0 +1,17 @@
+use Rattle.std.proofs.Common.{◌≡◌, Vec, ℕ, map}
+use Rattle.std.specs.Global.{Global}
+use Rattle.std.proofs.lemmas.Result.{IfOk-weaker}
+use Rattle.lab_defs_game.specs.Histories.{histories}
+use Rattle.lab_world.specs.Games.{game_model}
+use Rattle.lab_unfold.specs.declared.link.Kept.TheVariants.{Public}
+use Rattle.lab_unfold.specs.Firsts.{node_first}
+use Rattle.lab_unfold.specs.Links.{AreFirstLists}
+use Rattle.lab_unfold.specs.Traces.{traces}
+use Rattle.lab_unfold.proofs.AlikeLemmas.{nodes_told}
+use Rattle.lab_unfold.proofs.seen.first_of_nodes.Goals as goal
+
+pub returns : goal.returns
+returns c =
+    let g = game_model c.args.game.now in
+    IfOk-weaker c.first_lists.result (λ (v : Vec ℕ Global). AreFirstLists (traces g 1 Public) v.items) (λ (v : Vec ℕ Global). v.items ≡ map (node_first g) (histories g))
+    (λ v all. nodes_told g v.items all) c.first_lists.ensures
