@@ -8,7 +8,7 @@ use Rattle.lab_form.specs.declared.items.FormSet.{FormSet}
 use Rattle.lab_form.specs.Forms.{IsStepBelow}
 use Rattle.lab_form.specs.Chains.{last_to_first_from, last_to_first, is_at, IsSetThere}
 use Rattle.lab_form.specs.Columns.{chained_within, chained, AreLinks, AreHeads, ChainsValue, with_number, with_place, place_of, place_of_step, AreChains}
-use Rattle.lab_form.proofs.CallerLemmas.{last_more, last_none}
+use Rattle.lab_form.proofs.NumberLemmas.{last_more, last_none}
 
 -- numbers along links are the same however many there may be, where they are enough
 chained_enough : (links : List ℕ) → AreLinks links → (m n next : ℕ) → next ≤ length links → next ≤ m → next ≤ n → chained_within m links next ≡ chained_within n links next

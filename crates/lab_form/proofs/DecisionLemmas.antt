@@ -17,7 +17,7 @@ use Rattle.lab_form.specs.declared.items.FormSet.{FormSet}
 use Rattle.lab_form.specs.declared.items.FormRow.{FormRow}
 use Rattle.lab_form.specs.Forms.{actions_in, weight_count, taken_model, sets_model, whole_path, last_of, IsStepBelow, IsNextSet, AreSets, IsNextRow, AreRows}
 use Rattle.lab_form.specs.Decisions.{last_deciding, weight_number, last_decision, short_decision, decisions_above, row_decisions}
-use Rattle.lab_form.proofs.CallerLemmas.{chain_step, model_length, model_parent, parents_below}
+use Rattle.lab_form.proofs.PathLemmas.{chain_step, model_length, model_parent, parents_below}
 use Rattle.lab_form.proofs.ChainLemmas.{map_same_at}
 
 -- ---- sets, and steps at them
@@ -195,3 +195,24 @@ decision_fits sets ok = by_parents sets d ok (λ o. last_decision sets o ≤ wei
             let action : t.1 < s.actions = subst (λ n. t.1 < n) (get_or-map (λ (s : FormSet). s.actions) sets t.0.0 d 0 b.0) b.1 in
             subst (λ m. m ≤ weight_count sets) (sym (decision_step sets t d ok b.0 ∙ decides_at sets s t.1 two))
             (omega (arith, weight_room sets t.0.0 d b.0, own, action, (ok t.0.0 d b.0).first))
+
+-- in 32 bits it is exact where the seat has fewer weights than 32 bits count
+pub short_exact : (sets : List FormSet) → AreSets sets → weight_count sets < 2 ^ 32 → (step : Option (SetId × ℕ)) → IsStepBelow sets step → short_decision sets step ≡ last_decision sets step
+short_exact sets ok few step b =
+    let l : last_decision sets step < 4294967296 = omega (arith, decision_fits sets ok step b, few) in
+    let e : last_decision sets step % 4294967296 ≡ last_decision sets step = omega (arith, l) in
+    e
+
+-- so are the decisions above sets
+pub above_exact : (sets : List FormSet) → AreSets sets → weight_count sets < 2 ^ 32 → decisions_above sets ≡ map (λ s. last_decision sets s.parent) sets
+above_exact sets ok few =
+    map_same_at (λ (s : FormSet). short_decision sets s.parent) (λ (s : FormSet). last_decision sets s.parent) sets
+    (λ i d l. short_exact sets ok few (get_or sets i d).parent (step_more i sets (get_or sets i d).parent (omega (arith, l)) (ok i d l).parent))
+
+-- and those of rows
+pub rows_exact : (sets1 sets2 : List FormSet) (rows : List FormRow) → AreSets sets1 → AreSets sets2 → AreRows sets1 sets2 rows → weight_count sets1 < 2 ^ 32 → weight_count sets2 < 2 ^ 32
+    → row_decisions sets1 sets2 rows ≡ map (λ r. last_decision sets1 (last_of r 1) ∷ last_decision sets2 (last_of r 2) ∷ []) rows
+rows_exact sets1 sets2 rows ok1 ok2 there few1 few2 =
+    map_same_at (λ (r : FormRow). short_decision sets1 (last_of r 1) ∷ short_decision sets2 (last_of r 2) ∷ []) (λ (r : FormRow). last_decision sets1 (last_of r 1) ∷ last_decision sets2 (last_of r 2) ∷ []) rows
+    (λ i d l. ap (λ n. n ∷ short_decision sets2 (last_of (get_or rows i d) 2) ∷ []) (short_exact sets1 ok1 few1 (last_of (get_or rows i d) 1) (there i d l).one)
+    ∙ ap (λ n. last_decision sets1 (last_of (get_or rows i d) 1) ∷ n ∷ []) (short_exact sets2 ok2 few2 (last_of (get_or rows i d) 2) (there i d l).two))

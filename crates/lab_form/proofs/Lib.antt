@@ -1,4 +1,6 @@
 pub mod CallerLemmas
+pub mod PathLemmas
+pub mod NumberLemmas
 pub mod ChainLemmas
 pub mod DecisionLemmas
 pub mod ColumnLemmas
