@@ -3,7 +3,6 @@ use Rattle.std.proofs.Common.{◌≡◌, ℕ, ◌+◌, ◌<◌, ◌≤◌, List,
 use Rattle.std.specs.Prelude.{◌&&◌, ◌==◌, not, slice_index}
 use Rattle.std.specs.Ordering.{is_eq}
 use Rattle.std.proofs.lemmas.Bool.{and_parts, and_from, cases_lt, eq-eqb, eqb-true, false_from_ne_true}
-use Rattle.std.proofs.lemmas.Cmp.{tied_itself}
 use Rattle.lab_math.proofs.Members.{In, in_from_contains}
 use Rattle.lab_defs_text.specs.Games.{GameModel}
 use Rattle.lab_defs_text.specs.Words.{Bytes}
@@ -13,39 +12,20 @@ use Rattle.lab_defs_game.specs.Recall.{same_names, one_set, differ, owns, action
 use Rattle.lab_defs_game.specs.Sets.{Item, seen, publics, set_cmp}
 use Rattle.lab_defs_game.proofs.HistoryOrder.{history_total}
 use Rattle.lab_defs_game.proofs.NumberLemmas.{at_number, number_below}
-use Rattle.lab_defs_game.proofs.Orders.{set_total, set_exact}
-use Rattle.lab_defs_game.proofs.PairLaws.{place_any, first_place}
+use Rattle.lab_defs_game.proofs.Orders.{set_exact}
 use Rattle.lab_defs_game.proofs.RecallLemmas.{not_both, names_same, names_itself, second_fails, holds, inner_world, same_list_from, same_list_is}
 use Rattle.lab_defs_game.proofs.Spans.{eq_is}
 use Rattle.lab_unfold.specs.Values.{history_number, Unfolded, unfolded}
-use Rattle.lab_unfold.proofs.LevelLemmas.{ascending}
-use Rattle.lab_unfold.proofs.ParentLemmas.{all_length}
-use Rattle.lab_seen.specs.Firsts.{AreFirsts, is_inner, same_tokens}
+use Rattle.lab_unfold.specs.Firsts.{AreFirsts, IsFirstAkin, is_inner, same_tokens}
+use Rattle.lab_unfold.proofs.CallerLemmas.{all_length, ascending, first_akin, one_set_from}
 use Rattle.lab_recall.specs.Tests.{history, differs_at, forgets_at, IsFirstAt}
 
 -- ---- first histories
 
--- f is the first history that is akin to the history i
-record FirstAt (akin : History → History → Bool) (hs : List History) (i f : ℕ) : Type 0 where
-  within : f ≤ i
-  same : akin (get_or hs f []) (get_or hs i []) ≡ true
-  before : (k : ℕ) → k < f → akin (get_or hs k []) (get_or hs i []) ≡ false
-
 -- what is told of a history that is akin to itself
 first_at : (test : History → Bool) (akin : History → History → Bool) (hs : List History) (firsts : List ℕ) (i : ℕ) → AreFirsts test akin hs firsts → i < length hs → test (get_or hs i []) ≡ true
-    → akin (get_or hs i []) (get_or hs i []) ≡ true → FirstAt akin hs i (slice_index firsts i)
-first_at test akin hs firsts i all l t self =
-    subst (FirstAt akin hs i) (sym (all.first i l t)) (record { within = within (cases_lt i (place_of_first p hs)); same = r.1; before = r.2 })
-  where
-    p : History → Bool
-    p k = akin k (get_or hs i [])
-
-    r : (place_of_first p hs < length hs) × (p (get_or hs (place_of_first p hs) []) ≡ true) × ((k : ℕ) → k < place_of_first p hs → p (get_or hs k []) ≡ false)
-    r = first_place p hs (place_any p hs i l self)
-
-    within : (i < place_of_first p hs) ⊎ (place_of_first p hs ≤ i) → place_of_first p hs ≤ i
-    within (inl h) = absurd (not_both self (r.2 i h))
-    within (inr h) = h
+    → akin (get_or hs i []) (get_or hs i []) ≡ true → IsFirstAkin akin hs i (slice_index firsts i)
+first_at test akin hs firsts i all l t self = subst (IsFirstAkin akin hs i) (sym (all.first i l t)) (first_akin akin hs i l self)
 
 -- the same test finds the same place
 place_same : (p q : History → Bool) (hs : List History) → ((h : History) → p h ≡ q h) → place_of_first p hs ≡ place_of_first q hs
@@ -68,14 +48,7 @@ record OneSet (g : GameModel) (seat : ℕ) (h k : History) : Type 0 where
   second : is_inner g k ≡ true
   same : seen g seat h ≡ seen g seat k
 
--- they are of one set
-one_set_from : (g : GameModel) (seat : ℕ) (h k : History) → OneSet g seat h k → one_set g seat h k ≡ true
-one_set_from g seat h k o =
-    and_from (is_inner g h) (is_inner g k && is_eq (set_cmp (seen g seat h) (seen g seat k))) o.first
-    (and_from (is_inner g k) (is_eq (set_cmp (seen g seat h) (seen g seat k))) o.second
-    (ap (λ s. is_eq (set_cmp (seen g seat h) s)) (sym o.same) ∙ ap is_eq (tied_itself set_total (seen g seat h))))
-
--- and back
+-- so are two of one set
 one_set_is : (g : GameModel) (seat : ℕ) (h k : History) → one_set g seat h k ≡ true → OneSet g seat h k
 one_set_is g seat h k e =
     let p = and_parts (is_inner g h) (is_inner g k && is_eq (set_cmp (seen g seat h) (seen g seat k))) e in
@@ -84,8 +57,8 @@ one_set_is g seat h k e =
 
 module _ (g : GameModel) (seat : ℕ) (firsts : List ℕ) (all : AreFirsts (is_inner g) (one_set g seat) (histories g) firsts) where
   -- the first history of a set
-  set_first : (i : ℕ) → i < length (histories g) → is_inner g (history g i) ≡ true → FirstAt (one_set g seat) (histories g) i (slice_index firsts i)
-  set_first i l t = first_at (is_inner g) (one_set g seat) (histories g) firsts i all l t (one_set_from g seat (history g i) (history g i) (record { first = t; second = t; same = refl }))
+  set_first : (i : ℕ) → i < length (histories g) → is_inner g (history g i) ≡ true → IsFirstAkin (one_set g seat) (histories g) i (slice_index firsts i)
+  set_first i l t = first_at (is_inner g) (one_set g seat) (histories g) firsts i all l t (one_set_from g seat (history g i) (history g i) t t refl)
 
   -- it is the same for all of the set
   one_first : (i j : ℕ) → i < length (histories g) → j < length (histories g) → OneSet g seat (history g i) (history g j) → slice_index firsts i ≡ slice_index firsts j
@@ -146,7 +119,7 @@ module _ (g : GameModel) (seat : ℕ) (firsts : List ℕ) (all : AreFirsts (is_i
       t : (is_inner g (history g n) ≡ true) × (not (same_names (names (slice_index firsts n)) (names n)) ≡ true)
       t = and_parts (is_inner g (history g n)) (not (same_names (names (slice_index firsts n)) (names n))) at.passes
 
-      p : FirstAt (one_set g seat) (histories g) n (slice_index firsts n)
+      p : IsFirstAkin (one_set g seat) (histories g) n (slice_index firsts n)
       p = set_first n at.below t.0
 
       less : slice_index firsts n < n
@@ -228,7 +201,7 @@ seen_by (x ∷ xs) (y ∷ ys) o p a =
 
 module _ (g : GameModel) (seat : ℕ) (sets tokens : List ℕ) (one : AreFirsts (is_inner g) (one_set g seat) (histories g) sets) (all : AreFirsts (is_inner g) (same_tokens g seat) (histories g) tokens) where
   -- the first history with the same tokens
-  token_first : (i : ℕ) → i < length (histories g) → is_inner g (history g i) ≡ true → FirstAt (same_tokens g seat) (histories g) i (slice_index tokens i)
+  token_first : (i : ℕ) → i < length (histories g) → is_inner g (history g i) ≡ true → IsFirstAkin (same_tokens g seat) (histories g) i (slice_index tokens i)
   token_first i l t = first_at (is_inner g) (same_tokens g seat) (histories g) tokens i all l t (tokens_from g seat (history g i) (history g i) (record { first = t; second = t; own = refl; public = refl }))
 
   -- it is the same for all of them
@@ -293,10 +266,10 @@ module _ (g : GameModel) (seat : ℕ) (sets tokens : List ℕ) (one : AreFirsts 
       t : (is_inner g (history g n) ≡ true) × (not (slice_index sets n == slice_index tokens n) ≡ true)
       t = and_parts (is_inner g (history g n)) (not (slice_index sets n == slice_index tokens n)) at.passes
 
-      p : FirstAt (same_tokens g seat) (histories g) n (slice_index tokens n)
+      p : IsFirstAkin (same_tokens g seat) (histories g) n (slice_index tokens n)
       p = token_first n at.below t.0
 
-      q : FirstAt (one_set g seat) (histories g) n (slice_index sets n)
+      q : IsFirstAkin (one_set g seat) (histories g) n (slice_index sets n)
       q = set_first g seat sets one n at.below t.0
 
       o : OneTokens g seat (history g (slice_index tokens n)) (history g n)
@@ -312,7 +285,7 @@ module _ (g : GameModel) (seat : ℕ) (sets tokens : List ℕ) (one : AreFirsts 
           least : (slice_index tokens n < slice_index sets n) ⊎ (slice_index sets n ≤ slice_index tokens n) → (slice_index sets n < slice_index tokens n) ⊎ (slice_index tokens n ≤ slice_index sets n)
               → slice_index sets n ≡ slice_index tokens n
           least (inl l) c =
-              absurd (not_both (one_set_from g seat (history g (slice_index tokens n)) (history g n) (record { first = o.first; second = o.second; same = e })) (q.before (slice_index tokens n) l))
+              absurd (not_both (one_set_from g seat (history g (slice_index tokens n)) (history g n) o.first o.second e) (q.before (slice_index tokens n) l))
           least (inr l) (inl c) =
               absurd (not_both (tokens_from g seat (history g (slice_index sets n)) (history g n) (record { first = s.first; second = s.second; own = ap owns s.same; public = ap publics s.same })) (p.before (slice_index sets n) c))
           least (inr l) (inr c) = omega (arith, l, c)

@@ -3,7 +3,7 @@ use Rattle.std.specs.Prelude.{ℕ, ◌≡◌, ◌<◌, List, [], slice_index, sl
 use Rattle.lab_defs_text.specs.Games.{GameModel}
 use Rattle.lab_defs_game.specs.Histories.{History, histories, place_of, action_names}
 use Rattle.lab_defs_game.specs.Recall.{same_names}
-use Rattle.lab_seen.specs.Firsts.{is_inner}
+use Rattle.lab_unfold.specs.Firsts.{is_inner}
 
 -- the history with a number
 abbrev pub history : GameModel → ℕ → History

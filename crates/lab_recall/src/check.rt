@@ -1,19 +1,17 @@
 //! From the histories of a game to whether it has perfect recall.
 
-ghost use Rattle.std.specs.Prelude.{◌≡◌, None, IfOk, OnOk, IfErr};
+ghost use Rattle.std.specs.Prelude.{◌≡◌, None, OnOk, IfErr};
 ghost use Rattle.lab_defs_text.specs.Games.{by_seen};
 ghost use Rattle.lab_defs_game.specs.Laws.{Remembers};
 ghost use Rattle.lab_defs_game.specs.Recall.{recall_fault};
 ghost use Rattle.lab_world.specs.Games.{game_model};
 ghost use Rattle.lab_world.specs.Models.{recall_model};
 ghost use Rattle.lab_unfold.specs.Values.{unfolded};
-ghost use Rattle.lab_seen.specs.SetFirsts.{AreSetFirsts};
 ghost use Rattle.lab_recall.specs.Faults.{IsFault, IsForgotten};
 
 use super::memory::check_memory;
 use super::names::check_names;
 use crate::RecallFault;
-use lab_seen::{SetFirsts, set_firsts};
 use lab_unfold::Histories;
 use lab_world::{Game, Recall};
 use std::alloc::Global;
@@ -25,43 +23,21 @@ pub fn check_sets(alloc: Global, game: &Game, histories: &Histories) -> Result<(
     ensures none { OnOk result (recall_fault (game_model game.now) ≡ None) }
     ensures fault { IfErr result (λ e. IsFault (game_model game.now) e) }
 {
-    checked_sets(alloc, game, histories)?;
+    check_names(game, histories, 1)?;
+    check_names(game, histories, 2)?;
+    check_memories(alloc, game, histories)?;
     Ok(())
 }
 
-/// Likewise, and gives the first histories of the information sets.
-pub fn checked_sets(
-    alloc: Global,
-    game: &Game,
-    histories: &Histories,
-) -> Result<SetFirsts, RecallFault>
+// Checks that the tokens of each seat tell its own actions, if they have to.
+fn check_memories(alloc: Global, game: &Game, histories: &Histories) -> Result<(), RecallFault>
     requires unfolded { histories.now ≡ unfolded (game_model game.now) }
-    ensures firsts { IfOk result (λ f. AreSetFirsts (game_model game.now) f) }
-    ensures none { OnOk result (recall_fault (game_model game.now) ≡ None) }
-    ensures fault { IfErr result (λ e. IsFault (game_model game.now) e) }
-{
-    let firsts = set_firsts(alloc, game, histories)?;
-    check_names(game, histories, firsts.one.as_slice(), 1)?;
-    check_names(game, histories, firsts.two.as_slice(), 2)?;
-    check_memories(alloc, game, histories, &firsts)?;
-    Ok(firsts)
-}
-
-// Checks that the tokens of each seat tell its own actions, if they have to, by the first histories of the sets.
-fn check_memories(
-    alloc: Global,
-    game: &Game,
-    histories: &Histories,
-    firsts: &SetFirsts,
-) -> Result<(), RecallFault>
-    requires unfolded { histories.now ≡ unfolded (game_model game.now) }
-    requires firsts { AreSetFirsts (game_model game.now) firsts.now }
     ensures none { OnOk result (recall_model game.now.recall ≡ by_seen → Remembers (game_model game.now) 1 × Remembers (game_model game.now) 2) }
     ensures fault { IfErr result (λ e. IsForgotten (game_model game.now) e) }
 {
     if game.recall == Recall::Acts {
         return Ok(());
     }
-    check_memory(alloc, game, histories, firsts.one.as_slice(), 1)?;
-    check_memory(alloc, game, histories, firsts.two.as_slice(), 2)
+    check_memory(alloc, game, histories, 1)?;
+    check_memory(alloc, game, histories, 2)
 }

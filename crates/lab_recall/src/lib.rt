@@ -6,5 +6,5 @@ mod fault;
 mod memory;
 mod names;
 
-pub use check::{check_sets, checked_sets};
+pub use check::check_sets;
 pub use fault::RecallFault;

@@ -3,35 +3,31 @@
 ghost use Rattle.std.specs.Prelude.{◌≡◌, ◌⊎◌, ◌<◌, ℕ, false, length, IfSome, IfNone, OnOk, IfErr};
 ghost use Rattle.lab_defs_text.specs.Games.{by_seen};
 ghost use Rattle.lab_defs_game.specs.Laws.{Remembers};
-ghost use Rattle.lab_defs_game.specs.Recall.{one_set};
 ghost use Rattle.lab_world.specs.Games.{game_model};
 ghost use Rattle.lab_unfold.specs.Values.{unfolded};
-ghost use Rattle.lab_seen.specs.Firsts.{AreFirsts, is_inner};
 ghost use Rattle.lab_recall.specs.Tests.{forgets_at, IsFirstAt};
 ghost use Rattle.lab_recall.specs.Faults.{IsMemoryFault};
 
 use crate::RecallFault;
-use lab_seen::first_of_tokens;
-use lab_unfold::{Histories, HistoryId};
+use lab_unfold::{Histories, HistoryId, first_of_tokens};
 use lab_world::Game;
 use std::alloc::Global;
 
-/// Checks that the tokens that a seat, 1 or 2, has seen tell its own actions, by the first history of each of its sets.
+/// Checks that the tokens that a seat, 1 or 2, has seen tell its own actions.
 pub fn check_memory(
     alloc: Global,
     game: &Game,
     histories: &Histories,
-    sets: &[u32],
     seat: u32,
 ) -> Result<(), RecallFault>
     requires unfolded { histories.now ≡ unfolded (game_model game.now) }
     requires seat { (seat ≡ 1) ⊎ (seat ≡ 2) }
-    requires sets { AreFirsts (is_inner (game_model game.now)) (one_set (game_model game.now) seat) histories.now.histories sets.now }
     ensures none { OnOk result (Remembers (game_model game.now) seat) }
     ensures fault { IfErr result (λ e. IsMemoryFault (game_model game.now) seat e) }
 {
     let firsts = first_of_tokens(alloc, game, histories, seat)?;
     let tokens = firsts.as_slice();
+    let sets = histories.set_firsts(seat);
     match first_forgotten(game, histories, sets, tokens) {
         Some(second) => Err(RecallFault::Forgotten {
             seat,

@@ -10,7 +10,6 @@ ghost use Rattle.lab_world.specs.Games.{game_model};
 ghost use Rattle.lab_world.specs.Models.{action_list};
 ghost use Rattle.lab_world.specs.declared.place.ActionId.{ActionId};
 ghost use Rattle.lab_unfold.specs.Values.{unfolded};
-ghost use Rattle.lab_seen.specs.Firsts.{AreFirsts, is_inner};
 ghost use Rattle.lab_recall.specs.Tests.{differs_at, IsFirstAt};
 ghost use Rattle.lab_recall.specs.Faults.{IsNamesFault};
 
@@ -18,19 +17,14 @@ use crate::RecallFault;
 use lab_unfold::{Histories, HistoryId};
 use lab_world::{ActionId, Game, WorldId};
 
-/// Checks that at the histories of each information set of a seat its actions have the same names, by the first history of each set.
-pub fn check_names(
-    game: &Game,
-    histories: &Histories,
-    firsts: &[u32],
-    seat: u32,
-) -> Result<(), RecallFault>
+/// Checks that at the histories of each information set of a seat, 1 or 2, its actions have the same names as at the first one.
+pub fn check_names(game: &Game, histories: &Histories, seat: u32) -> Result<(), RecallFault>
     requires unfolded { histories.now ≡ unfolded (game_model game.now) }
     requires seat { (seat ≡ 1) ⊎ (seat ≡ 2) }
-    requires firsts { AreFirsts (is_inner (game_model game.now)) (recall.one_set (game_model game.now) seat) histories.now.histories firsts.now }
     ensures none { OnOk result (AlikeNames (game_model game.now) seat) }
     ensures fault { IfErr result (λ e. IsNamesFault (game_model game.now) seat e) }
 {
+    let firsts = histories.set_firsts(seat);
     match first_differing(game, histories, firsts, seat) {
         Some(second) => Err(RecallFault::LegalDiffers {
             seat,
