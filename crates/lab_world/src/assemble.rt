@@ -16,8 +16,9 @@ use std::alloc::Global;
 
 impl Game {
     /// Makes a game of its parts: names become numbers, and the rows of each world stand in the order of its joint actions.
-    /// Parts with no token or no place are answered as all others are: they make no game. They have fewer than 2^32 actions, rows
-    /// and outcomes together, as all that a text of fewer bytes declares: so `Memory` says that memory was short, and nothing else.
+    /// Parts with no token or no place are answered as all others are: they make no game.
+    /// There are fewer than 2^32 actions, rows and outcomes in all, as in each text of fewer bytes; so `Memory` says that memory
+    /// was short, and nothing else.
     pub fn assemble(alloc: Global, parts: Parts) -> Result<Game, AssembleFault>
         requires named { length parts.names ≡ length parts.places }
         requires fit { may_assemble (draft_of parts) ≡ true }
