@@ -1,5 +1,5 @@
 -- From the parts of a text to its game.
-use Rattle.std.proofs.Common.{◌≡◌, Option, Result, Ok, Err, sym, ap, subst, ◌∙◌, true, length, map}
+use Rattle.std.proofs.Common.{◌≡◌, ◌^◌, ◌<◌, Option, Result, Ok, Err, sym, ap, subst, ◌∙◌, true, length, map}
 use Rattle.std.specs.Prelude.{◌&&◌, nat_lt}
 use Rattle.std.specs.List.{list_all}
 use Rattle.std.specs.Borrow.{Bor}
@@ -21,28 +21,32 @@ use Rattle.lab_world.specs.declared.game.Game.{Game}
 use Rattle.lab_world.specs.declared.parts.Parts.{Parts}
 use Rattle.lab_world.specs.Drafts.{named_draft_of, are_apart, may_assemble}
 use Rattle.lab_world.specs.Games.{game_model}
+use Rattle.lab_world.specs.Sizes.{sizes_ok}
 use Rattle.lab_text.specs.declared.fault.TextFault.{TextFault as Fault}
 use Rattle.lab_text.specs.declared.draft.Draft.{Draft}
 use Rattle.lab_text.specs.Faults.{text_fault}
 use Rattle.lab_text.specs.Drafts.{draft_is, all_parts}
 use Rattle.lab_text.proofs.FaultSteps.{fault_same}
+use Rattle.lab_text.proofs.SizeSteps.{read_sizes}
 
--- parts in order may be assembled
-in_order_fit : (d : draft.Draft) → parts_ok d ≡ true → may_assemble d ≡ true
-in_order_fit d e =
+-- parts in order whose sizes fit may be assembled
+in_order_fit : (d : draft.Draft) → parts_ok d ≡ true → sizes_ok d.places ≡ true → may_assemble d ≡ true
+in_order_fit d e sizes =
     let names = map place_name d.places in
+    let fine = list_all part_ok d.places && sizes_ok d.places in
     let a = and_parts (is_within 1 4096 d.grid) (is_within 1 32 d.horizon && (are_names d.tokens && (are_names names && list_all part_ok d.places))) e in
     let b = and_parts (is_within 1 32 d.horizon) (are_names d.tokens && (are_names names && list_all part_ok d.places)) a.1 in
     let c = and_parts (are_names d.tokens) (are_names names && list_all part_ok d.places) b.1 in
     let f = and_parts (are_names names) (list_all part_ok d.places) c.1 in
-    and_from (is_within 1 4096 d.grid) (is_within 1 32 d.horizon && (are_apart d.tokens && (are_apart names && list_all part_ok d.places))) a.0
-    (and_from (is_within 1 32 d.horizon) (are_apart d.tokens && (are_apart names && list_all part_ok d.places)) b.0
-    (and_from (are_apart d.tokens) (are_apart names && list_all part_ok d.places) (and_parts (nat_lt 0 (length d.tokens)) (are_apart d.tokens) c.0).1
-    (and_from (are_apart names) (list_all part_ok d.places) (and_parts (nat_lt 0 (length names)) (are_apart names) f.0).1 f.1)))
+    and_from (is_within 1 4096 d.grid) (is_within 1 32 d.horizon && (are_apart d.tokens && (are_apart names && fine))) a.0
+    (and_from (is_within 1 32 d.horizon) (are_apart d.tokens && (are_apart names && fine)) b.0
+    (and_from (are_apart d.tokens) (are_apart names && fine) (and_parts (nat_lt 0 (length d.tokens)) (are_apart d.tokens) c.0).1
+    (and_from (are_apart names) fine (and_parts (nat_lt 0 (length names)) (are_apart names) f.0).1 (and_from (list_all part_ok d.places) (sizes_ok d.places) f.1 sizes))))
 
 -- parts that were read may be assembled
-pub all_fit : (bytes : Bytes) (x : Draft) (p : Parts (Bor Bytes)) → parts_of bytes ≡ Ok (draft_is x) → p ≡ all_parts x → may_assemble (named_draft_of p) ≡ true
-all_fit bytes x p e f = ap (λ (q : Parts (Bor Bytes)). may_assemble (named_draft_of q)) f ∙ in_order_fit (draft_is x) (parts_fit bytes (draft_is x) e)
+pub all_fit : (bytes : Bytes) (x : Draft) (p : Parts (Bor Bytes)) → length bytes < 2 ^ 32 → parts_of bytes ≡ Ok (draft_is x) → p ≡ all_parts x → may_assemble (named_draft_of p) ≡ true
+all_fit bytes x p short e f =
+    ap (λ (q : Parts (Bor Bytes)). may_assemble (named_draft_of q)) f ∙ in_order_fit (draft_is x) (parts_fit bytes (draft_is x) e) (read_sizes bytes (draft_is x) short e)
 
 -- the game of a text is that of the parts that were read
 pub game_is : (bytes : Bytes) (x : Draft) (p : Parts (Bor Bytes)) → parts_of bytes ≡ Ok (draft_is x) → p ≡ all_parts x → game_of bytes ≡ assembled (named_draft_of p)

@@ -8,4 +8,5 @@ pub mod FaultSteps
 pub mod TakeSteps
 pub mod LoopSteps
 pub mod GameSteps
+pub mod SizeSteps
 pub mod FirstPlaces

@@ -9,7 +9,7 @@ use Rattle.std.proofs.lemmas.List.Quantifiers.{position-Some}
 use Rattle.lab_defs_text.specs.Words.{Bytes, stands_in}
 use Rattle.lab_defs_text.specs.Faults.{twice_at}
 use Rattle.lab_defs_text.specs.Drafts.{first_twice, unless_twice}
-use Rattle.lab_lex.proofs.Positions.{list_any-from_None}
+use Rattle.lab_lex.proofs.CallerLemmas.{nothing_passes}
 use Rattle.lab_text.specs.Drafts.{pieces}
 
 -- an item that passes a test
@@ -24,7 +24,7 @@ stands_found n ns k e = let r = position-Some (bytes_eq n) ns k [] e in any_at (
 
 -- a name that is new is added
 pub new_name : {A : Type 0} (n : Bytes) (ns : List Bytes) (x : A) → position (bytes_eq n) ns ≡ None → unless_twice (stands_in n ns) x ≡ Ok x
-new_name n ns x e = cond-false (stands_in n ns) (Err (twice_at 2)) (Ok x) (list_any-from_None (bytes_eq n) ns e)
+new_name n ns x e = cond-false (stands_in n ns) (Err (twice_at 2)) (Ok x) (nothing_passes (bytes_eq n) ns e)
 
 -- a name that has a number is not added
 pub old_name : {A : Type 0} (n : Bytes) (ns : List Bytes) (x : A) (k : ℕ) → position (bytes_eq n) ns ≡ Some k → unless_twice (stands_in n ns) x ≡ Err (twice_at 2)
@@ -45,7 +45,7 @@ twice_later place before after ns i d h p a =
     let n = (get_or ns i d).now in
     ap (λ (bs : List Bytes). first_twice (place + 1) bs (pieces (drop (i + 1) ns))) a
     ∙ sym (ap (λ (ys : List (Bor Bytes)). first_twice place before (pieces ys)) (drop_more ns i d h)
-    ∙ cond-false (stands_in n before) place (first_twice (place + 1) (before ++ n ∷ []) (pieces (drop (i + 1) ns))) (list_any-from_None (bytes_eq n) before p))
+    ∙ cond-false (stands_in n before) place (first_twice (place + 1) (before ++ n ∷ []) (pieces (drop (i + 1) ns))) (nothing_passes (bytes_eq n) before p))
 
 -- the names up to a place are those before it, and that at it
 pub names_up_to : (ns : List (Bor Bytes)) (i : ℕ) (d : Bor Bytes) → i < length ns → pieces (take (i + 1) ns) ≡ pieces (take i ns) ++ (get_or ns i d).now ∷ []

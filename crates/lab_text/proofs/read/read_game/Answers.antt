@@ -12,7 +12,7 @@ use Rattle.lab_text.proofs.GameSteps.{all_fit, game_is, parts_fault, whole_fault
 use Rattle.lab_text.proofs.read.read_game.Goals as goal
 
 pub assemble_named-requires-clause-fit : goal.assemble_named-requires-clause-fit
-assemble_named-requires-clause-fit c = all_fit c.args.bytes.now c.in_ok-draft.draft c.all_parts.result c.in_ok-draft.ensures.parts c.all_parts.ensures
+assemble_named-requires-clause-fit c = all_fit c.args.bytes.now c.in_ok-draft.draft c.all_parts.result c.requires c.in_ok-draft.ensures.parts c.all_parts.ensures
 
 pub returns-in_err-draft-clause-only : goal.returns-in_err-draft-clause-only
 returns-in_err-draft-clause-only c =
