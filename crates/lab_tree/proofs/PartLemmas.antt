@@ -8,6 +8,7 @@ use Rattle.lab_defs_game.specs.Laws.{AlikeNames}
 use Rattle.lab_defs_game.specs.Nodes as nodes
 use Rattle.lab_defs_game.specs.Recall.{recall_fault}
 use Rattle.lab_defs_game.specs.Sets.{seen, set_cmp, sets}
+use Rattle.lab_defs_game.specs.Unfolding.{unfold_fault}
 use Rattle.lab_defs_game.proofs.KeyLemmas.{length_merged}
 use Rattle.lab_defs_game.proofs.NumberLemmas.{count_le_length, length-filter}
 use Rattle.lab_defs_game.proofs.RecallLemmas.{recall_law}
@@ -20,9 +21,10 @@ use Rattle.lab_tree.specs.WayLaws.{tree_sets, AreStarts, AreParents, IsParentNod
 use Rattle.lab_tree.proofs.NodeLemmas.{last_split}
 use Rattle.lab_tree.proofs.PathLaws.{paths_law}
 use Rattle.lab_tree.proofs.SetLaws.{at_nodes_law}
+use Rattle.lab_tree.proofs.GroupLaws.{grouped_law}
 use Rattle.lab_tree.proofs.SpanLemmas.{starts_long, start_read}
 use Rattle.lab_tree.proofs.WayLaws.{way_law}
-use Rattle.lab_tree.specs.Paths.{ArePaths}
+use Rattle.lab_tree.specs.Paths.{ArePaths, HavePaths}
 use Rattle.lab_tree.specs.Places.{item_of, AreAtNodes}
 use Rattle.lab_tree.specs.Ways.{AreWays, bases_of}
 use Rattle.std.proofs.lemmas.List.FromFn.{length-map-range_with_len}
@@ -76,12 +78,21 @@ parents_are g = record {
 }
 
 -- the sets of a seat stand on ways
-pub ways_are : (g : GameModel) (seat : ℕ) → AreWays (length (sets_in g seat).sets) (sets_in g seat).starts (nodes_in g).parents
+ways_are : (g : GameModel) (seat : ℕ) → AreWays (length (sets_in g seat).sets) (sets_in g seat).starts (nodes_in g).parents
 ways_are g seat = way_law g seat (sets_in g seat).starts (nodes_in g).parents (starts_are g seat) (parents_are g)
 
 -- they stand at nodes, behind where those of their nodes start
-pub at_nodes_are : (g : GameModel) (seat : ℕ) → AreAtNodes (sets_in g seat).sets (sets_in g seat).starts (bases_of (sets_in g seat).starts (nodes_in g).parents)
+at_nodes_are : (g : GameModel) (seat : ℕ) → AreAtNodes (sets_in g seat).sets (sets_in g seat).starts (bases_of (sets_in g seat).starts (nodes_in g).parents)
 at_nodes_are g seat = at_nodes_law g seat (sets_in g seat).starts (nodes_in g).parents (starts_are g seat) (parents_are g)
+
+-- they have paths
+pub have_paths : (g : GameModel) (seat : ℕ) → unfold_fault g ≡ None → HavePaths (sets_in g seat).sets (sets_in g seat).starts (nodes_in g).parents
+have_paths g seat ok = record {
+  few = omega (arith, length-map (sets g seat) (set_in g seat), sets_few g seat, histories_few g ok);
+  ways = ways_are g seat;
+  grouped = grouped_law g seat;
+  nodes = at_nodes_are g seat;
+}
 
 -- the paths of the tree
 paths_are : (g : GameModel) (seat : ℕ) → (seat_with (sets_in g seat) (paths_in g seat) (nodes_in g).parents).paths ≡ (seat_in g seat).paths

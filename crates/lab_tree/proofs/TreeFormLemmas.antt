@@ -1,20 +1,21 @@
 -- The form of a tree, set by set and row by row.
-use Rattle.std.proofs.Common.{◌≡◌, ℕ, ◌+◌, ◌<◌, ◌≤◌, pos, List, [], Bool, true, false, cond, map, take, length, get_or, Option, Some, None, refl, sym, ap, ◌∙◌, subst, arith}
+use Rattle.std.proofs.Common.{◌≡◌, ℕ, ◌+◌, ◌-◌, ◌<◌, ◌≤◌, pos, List, [], ◌∷◌, ◌++◌, Bool, true, false, cond, map, take, length, get_or, Option, Some, None, refl, sym, ap, ◌∙◌, subst, arith}
 use Rattle.std.specs.Prelude.{nat_le, ◌==◌}
 use Rattle.std.specs.List.{range_with_len}
-use Rattle.std.proofs.lemmas.List.{get_or-map, length-map}
-use Rattle.std.proofs.lemmas.List.FromFn.{get_or-map-range_with_len}
+use Rattle.std.proofs.lemmas.List.{get_or-map, length-map, map-append, take_more}
+use Rattle.std.proofs.lemmas.List.FromFn.{get_or-map-range_with_len, length-map-range_with_len}
 use Rattle.lab_defs_game.specs.Forms as forms
 use Rattle.lab_defs_game.specs.Paths.{SetAction}
 use Rattle.lab_defs_game.proofs.FormLemmas.{count_push}
 use Rattle.lab_defs_game.proofs.NumberLemmas.{count_le_length}
 use Rattle.lab_form.specs.declared.items.FormSet.{FormSet}
 use Rattle.lab_form.specs.declared.items.FormRow.{FormRow}
-use Rattle.lab_form.specs.Forms.{FormValue, sets_of, sets_model, whole_path, AreSets, AreRows, IsNextSet, IsNextRow}
-use Rattle.lab_form.proofs.PathLemmas.{ParentsBelow, chain_step, chain_short, model_length, model_actions, model_parent, parents_below}
+use Rattle.lab_form.specs.Forms.{FormValue, sets_of, sets_model, whole_path, with_row, AreSets, AreRows, IsNextSet, IsNextRow}
+use Rattle.lab_form.proofs.CallerLemmas.{ParentsBelow, chain_step, chain_short, model_length, model_actions, model_parent, parents_below}
 use Rattle.lab_tree.specs.declared.info.SetInfo.{SetInfo}
 use Rattle.lab_tree.specs.declared.info.RowInfo.{RowInfo}
-use Rattle.lab_tree.specs.TreeForms.{form_set, form_sets, form_row, with_sets}
+use Rattle.lab_tree.specs.Decisions.{counted_row}
+use Rattle.lab_tree.specs.TreeForms.{form_set, form_sets, form_row, last_set, with_sets, with_rows}
 
 -- the deciding sets on the chain up to a step are those up to its set
 pub decisions_of : (sets : List forms.FormSet) (t : SetAction) → ParentsBelow sets → t.set < length sets → forms.deciding (forms.actions_in sets) (forms.chain sets (Some t)) ≡ forms.decisions_to sets t.set
@@ -94,3 +95,25 @@ row_next sets1 sets2 rows i most1 most2 d ok l =
     let none : FormRow = form_row sets1 sets2 0 0 d in
     let there = subst (IsNextRow sets1 sets2) (get_or-map (form_row sets1 sets2 0 0) rows i d none l) (ok i none (subst (λ n. i < n) (sym (length-map rows (form_row sets1 sets2 0 0))) l)) in
     record { one = there.one; two = there.two }
+
+-- its last set of a seat is one of those that are counted
+pub last_counted : (sets : List FormSet) (counts : List ℕ) (i : ℕ) → counts ≡ map (forms.decisions_to (sets_model sets)) (range_with_len 0 (length sets)) → i < length sets → i < length counts
+last_counted sets counts i e l = subst (λ n. i < n) (sym (ap length e ∙ length-map-range_with_len (forms.decisions_to (sets_model sets)) 0 (length sets))) l
+
+-- by the decisions of each set it is the row of the form
+pub counted_is : (sets1 sets2 : List FormSet) (counts1 counts2 : List ℕ) (most1 most2 : ℕ) (r : RowInfo)
+    → counts1 ≡ map (forms.decisions_to (sets_model sets1)) (range_with_len 0 (length sets1)) → counts2 ≡ map (forms.decisions_to (sets_model sets2)) (range_with_len 0 (length sets2))
+    → IsNextRow sets1 sets2 (form_row sets1 sets2 0 0 r) → counted_row counts1 counts2 most1 most2 r ≡ form_row sets1 sets2 most1 most2 r
+counted_is sets1 sets2 counts1 counts2 most1 most2 r e1 e2 there =
+    ap (λ n. told n (most2 - get_or counts2 (last_set r 2).0.0 0)) (ap (λ n. most1 - n) (counted_at (forms.decisions_to (sets_model sets1)) counts1 (length sets1) (last_set r 1).0.0 e1 there.one.0))
+    ∙ ap (told (most1 - forms.decisions_to (sets_model sets1) (last_set r 1).0.0)) (ap (λ n. most2 - n) (counted_at (forms.decisions_to (sets_model sets2)) counts2 (length sets2) (last_set r 2).0.0 e2 there.two.0))
+  where
+    told : ℕ → ℕ → FormRow
+    told m n = record { worth = r.worth; last = Some (last_set r 1) ∷ Some (last_set r 2) ∷ []; pads = m ∷ n ∷ [] }
+
+-- a form with the first rows, and then the next one
+pub rows_more : (f h : FormValue) (made : RowInfo → FormRow) (rows : List RowInfo) (i : ℕ) (d : RowInfo) (row : FormRow) → i < length rows → h ≡ with_rows f (map made (take i rows)) → row ≡ made (get_or rows i d)
+    → with_row h row ≡ with_rows f (map made (take (i + 1) rows))
+rows_more f h made rows i d row l e r =
+    ap (λ (h : FormValue). with_row h row) e ∙ ap (λ z. with_rows f (map made (take i rows) ++ z ∷ [])) r
+    ∙ ap (with_rows f) (sym (map-append made (take i rows) (get_or rows i d ∷ [])) ∙ ap (map made) (sym (take_more rows i d l)))

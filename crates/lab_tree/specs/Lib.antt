@@ -8,6 +8,7 @@ pub mod TreeParts
 pub mod Trees
 pub mod Ends
 pub mod TreeForms
+pub mod Decisions
 pub mod Ways
 pub mod Places
 pub mod Paths

@@ -1,127 +1,40 @@
 //! The form of a tree.
 
-ghost use Rattle.std.specs.Prelude.{
-  ◌≡◌,
-  ◌⊎◌,
-  ◌+◌,
-  ◌<◌,
-  ◌≤◌,
-  ◌^◌,
-  [],
-  None,
-  map,
-  length,
-  take,
-  nat_le,
-  slice_index,
-  slice_index_or,
-  if◌then◌else◌,
-  ◌==◌,
-  IfOk,
-};
+ghost use Rattle.std.specs.Prelude.{◌≡◌, ◌⊎◌, ◌<◌, ◌≤◌, ◌^◌, [], map, length, slice_index, IfOk};
 ghost use Rattle.std.specs.List.{range_with_len};
-ghost use Rattle.lab_defs_game.specs.Forms.{actions_in, deciding, decisions_to};
-ghost use Rattle.lab_form.specs.Forms.{
-  sets_of,
-  sets_model,
-  whole_path,
-  IsStepBelow,
-  IsNextRow,
-  AreSets,
-  AreRows,
-};
-ghost use Rattle.lab_tree.specs.TreeForms.{
-  form_sets,
-  form_rows,
-  form_row,
-  form_in,
-  with_sets,
-  with_rows,
-  last_set,
-  AreFormParts,
-};
+ghost use Rattle.lab_defs_game.specs.Forms.{decisions_to};
+ghost use Rattle.lab_form.specs.Forms.{sets_of, sets_model, AreSets, AreRows};
+ghost use Rattle.lab_tree.specs.Decisions.{counted_row};
+ghost use Rattle.lab_tree.specs.TreeForms.{form_sets, form_row, form_in, with_sets, with_rows, last_set, AreFormParts};
 
+use super::sets::SeatSets;
 use crate::{NoMemory, RowInfo, SetInfo};
-use lab_form::{Form, FormRow, FormSet, SetId};
-use std::alloc::{AllocError, Global};
+use lab_form::{Form, FormRow, FormSet};
+use std::alloc::Global;
 
 /// The form of the sets of each seat and of rows; a row lacks as many decisions as it has fewer than the most of the seat.
 pub fn form_of(
     alloc: Global,
-    one: &[SetInfo],
-    two: &[SetInfo],
+    one: &SeatSets,
+    two: &SeatSets,
     rows: &[RowInfo],
     most: [u32; 2],
 ) -> Result<Form, NoMemory>
-    requires parts { AreFormParts one.now two.now rows.now }
-    requires few1 { length one.now < 2 ^ 32 }
-    requires few2 { length two.now < 2 ^ 32 }
+    requires parts { AreFormParts one.now.sets two.now.sets rows.now }
+    requires few1 { length one.now.sets < 2 ^ 32 }
+    requires few2 { length two.now.sets < 2 ^ 32 }
     requires few { length rows.now < 2 ^ 32 }
-    ensures { IfOk result (λ f. f ≡ form_in one.now two.now (slice_index most 0) (slice_index most 1) rows.now) }
+    ensures { IfOk result (λ f. f ≡ form_in one.now.sets two.now.sets (slice_index most 0) (slice_index most 1) rows.now) }
 {
-    let Ok(counts1) = decision_counts(alloc, one) else {
-        return Err(NoMemory);
-    };
-    let Ok(counts2) = decision_counts(alloc, two) else {
-        return Err(NoMemory);
-    };
-    let room = one.len().max(two.len());
+    let room = one.sets().len().max(two.sets().len());
     let Ok(form) = Form::with_room(alloc, room as u32, rows.len() as u32) else {
         return Err(NoMemory);
     };
     let mut form = form;
-    add_sets(&mut form, 1, one);
-    add_sets(&mut form, 2, two);
-    add_rows(
-        &mut form,
-        rows,
-        counts1.as_slice(),
-        counts2.as_slice(),
-        most,
-    );
+    add_sets(&mut form, 1, one.sets());
+    add_sets(&mut form, 2, two.sets());
+    add_rows(&mut form, rows, one.decisions(), two.decisions(), most);
     Ok(form)
-}
-
-// How many deciding sets the way up to each set has, the set included.
-fn decision_counts(alloc: Global, sets: &[SetInfo]) -> Result<Vec<u32>, AllocError>
-    requires sets { AreSets (form_sets sets.now) }
-    requires few { length sets.now < 2 ^ 32 }
-    ensures { IfOk result (λ c. c.items
-        ≡ map (decisions_to (sets_model (form_sets sets.now))) (range_with_len 0 (length sets.now))) }
-{
-    let mut counts = Vec::new(alloc);
-    for _ in 0..sets.len() {
-        counts.push(decision_count(sets, counts.as_slice()))?;
-    }
-    Ok(counts)
-}
-
-// That of the first set that has none yet.
-fn decision_count(sets: &[SetInfo], counts: &[u32]) -> u32
-    requires sets { AreSets (form_sets sets.now) }
-    requires few { length sets.now < 2 ^ 32 }
-    requires counts { counts.now ≡ map (decisions_to (sets_model (form_sets sets.now))) (range_with_len 0 (length counts.now)) }
-    requires below { length counts.now < length sets.now }
-    ensures { result ≡ decisions_to (sets_model (form_sets sets.now)) (length counts.now) }
-{
-    let set = sets[counts.len()];
-    let before = decisions_before(sets, counts, set.parent);
-    if set.actions >= 2 { before + 1 } else { before }
-}
-
-// How many deciding sets the way up to a step has.
-fn decisions_before(sets: &[SetInfo], counts: &[u32], step: Option<(SetId, u32)>) -> u32
-    requires sets { AreSets (form_sets sets.now) }
-    requires counts { counts.now ≡ map (decisions_to (sets_model (form_sets sets.now))) (range_with_len 0 (length counts.now)) }
-    requires below { IsStepBelow (take (length counts.now) (form_sets sets.now)) step }
-    requires within { length counts.now ≤ length sets.now }
-    ensures { result
-        ≡ deciding (actions_in (sets_model (form_sets sets.now))) (whole_path (form_sets sets.now) step) }
-{
-    let Some(last) = step else {
-        return 0;
-    };
-    counts[last.0.0 as usize]
 }
 
 // Adds the sets of a seat to a form that has none of it.
@@ -155,20 +68,17 @@ fn add_rows(form: &mut Form, rows: &[RowInfo], counts1: &[u32], counts2: &[u32],
         ≡ with_rows form.old (map (form_row form.old.sets1 form.old.sets2 (slice_index most 0) (slice_index most 1)) rows.now) }
 {
     for row in rows {
-        let next = next_row(form, row, counts1, counts2, most);
+        let next = next_row(row, counts1, counts2, most);
         form.add_row(next);
     }
 }
 
 // A row of a form from that of a tree.
-fn next_row(form: &Form, row: &RowInfo, counts1: &[u32], counts2: &[u32], most: [u32; 2]) -> FormRow
-    requires there { IsNextRow form.now.sets1 form.now.sets2 (form_row form.now.sets1 form.now.sets2 0 0 row.now) }
-    requires counts1 { counts1.now ≡ map (decisions_to (sets_model form.now.sets1)) (range_with_len 0 (length form.now.sets1)) }
-    requires counts2 { counts2.now ≡ map (decisions_to (sets_model form.now.sets2)) (range_with_len 0 (length form.now.sets2)) }
-    ensures { result
-        ≡ form_row form.now.sets1 form.now.sets2 (slice_index most 0) (slice_index most 1) row.now }
+fn next_row(row: &RowInfo, counts1: &[u32], counts2: &[u32], most: [u32; 2]) -> FormRow
+    requires there1 { (last_set row.now 1).0.0 < length counts1.now }
+    requires there2 { (last_set row.now 2).0.0 < length counts2.now }
+    ensures { result ≡ counted_row counts1.now counts2.now (slice_index most 0) (slice_index most 1) row.now }
 {
-    let _ = form;
     let [first, second] = row.last;
     FormRow {
         worth: row.worth,

@@ -2,6 +2,7 @@
 #![tactic(auto)]
 
 mod behind;
+mod decisions;
 mod end;
 mod ends;
 mod first_nodes;

@@ -1,17 +1,16 @@
-//! What stands on the paths of a seat.
+//! The sets of a seat as items of paths.
 
-ghost use Rattle.std.specs.Prelude.{◌≡◌, ◌<◌, ◌^◌, length, IfOk};
-ghost use Rattle.lab_tree.specs.Paths.{paths_by};
-ghost use Rattle.lab_tree.specs.Places.{AreAtNodes, AreGrouped};
-ghost use Rattle.lab_tree.specs.Ways.{AreWays, bases_of};
+ghost use Rattle.std.specs.Prelude.{◌≡◌, IfOk};
+ghost use Rattle.lab_tree.specs.Paths.{paths_by, HavePaths};
 
 use super::places::path_items;
+use super::sets::SeatSets;
 use super::walk::bases;
-use crate::{NodeId, PathItem, SetInfo};
+use crate::{NodeId, PathItem};
 use std::alloc::{AllocError, Global};
 use std::marker::Model;
 
-/// The sets of a seat as items of paths, and how many items stand on the way up to each node.
+/// The sets of a seat as items of paths, and how many items are on the way up to each node.
 #[derive(Drop)]
 pub struct SeatPaths {
     items: Vec<PathItem>,
@@ -27,21 +26,17 @@ impl Model for SeatPaths {
 }
 
 impl SeatPaths {
-    /// Those of sets, by where the sets of each node start and by the parent of each node.
+    /// Those of the sets of a seat, by the parent of each node.
     pub fn build(
         alloc: Global,
-        sets: &[SetInfo],
-        starts: &[u32],
+        sets: &SeatSets,
         parents: &[Option<NodeId>],
     ) -> Result<SeatPaths, AllocError>
-        requires few { length sets.now < 2 ^ 32 }
-        requires ways { AreWays (length sets.now) starts.now parents.now }
-        requires grouped { AreGrouped sets.now }
-        requires nodes { AreAtNodes sets.now starts.now (bases_of starts.now parents.now) }
-        ensures { IfOk result (λ p. p ≡ paths_by sets.now starts.now parents.now) }
+        requires { HavePaths sets.now.sets sets.now.starts parents.now }
+        ensures { IfOk result (λ p. p ≡ paths_by sets.now.sets sets.now.starts parents.now) }
     {
-        let bases = bases(alloc, starts, parents, sets.len() as u32)?;
-        let items = path_items(alloc, sets, starts, bases.as_slice())?;
+        let bases = bases(alloc, sets.starts(), parents)?;
+        let items = path_items(alloc, sets.sets(), sets.starts(), bases.as_slice())?;
         Ok(SeatPaths { items, bases })
     }
 
@@ -52,7 +47,7 @@ impl SeatPaths {
         self.items.as_slice()
     }
 
-    /// How many items stand on the way up to each node.
+    /// How many items are on the way up to each node.
     pub fn bases(&self) -> &[u32]
         ensures { result.now ≡ self.now.bases }
     {

@@ -8,10 +8,8 @@ ghost use Rattle.lab_unfold.specs.Values.{unfolded};
 ghost use Rattle.lab_seen.specs.Firsts.{AreFirsts, is_inner};
 ghost use Rattle.lab_tree.specs.NodeValues.{nodes_in};
 ghost use Rattle.lab_tree.specs.SetValues.{sets_in};
-ghost use Rattle.lab_tree.specs.TreeParts.{paths_in};
 
 use super::nodes::Nodes;
-use super::paths::SeatPaths;
 use super::sets::SeatSets;
 use lab_seen::first_of_nodes;
 use lab_unfold::Histories;
@@ -45,22 +43,4 @@ pub fn sets_of(
     ensures { IfOk result (λ s. s ≡ sets_in (game_model game.now) seat) }
 {
     SeatSets::build(alloc, game, histories, seat, firsts, nodes)
-}
-
-/// What stands on the paths of a seat, 1 or 2.
-pub fn paths_of(
-    alloc: Global,
-    game: &Game,
-    seat: u32,
-    nodes: &Nodes,
-    sets: &SeatSets,
-) -> Result<SeatPaths, AllocError>
-    requires accepted { unfold_fault (game_model game.now) ≡ None }
-    requires nodes { nodes.now ≡ nodes_in (game_model game.now) }
-    requires sets { sets.now ≡ sets_in (game_model game.now) seat }
-    ensures { IfOk result (λ p. p ≡ paths_in (game_model game.now) seat) }
-{
-    let _ = game;
-    let _ = seat;
-    SeatPaths::build(alloc, sets.sets(), sets.starts(), nodes.parents())
 }

@@ -8,9 +8,11 @@ ghost use Rattle.lab_defs_game.specs.Unfolding.{unfold_fault};
 ghost use Rattle.lab_world.specs.Games.{game_model};
 ghost use Rattle.lab_unfold.specs.Values.{unfolded};
 ghost use Rattle.lab_seen.specs.Firsts.{AreFirsts, is_inner};
+ghost use Rattle.lab_tree.specs.Decisions.{set_decisions};
 ghost use Rattle.lab_tree.specs.NodeValues.{nodes_in};
 ghost use Rattle.lab_tree.specs.SetValues.{sets_in, AreBounds};
 
+use super::decisions::decision_counts;
 use super::nodes::Nodes;
 use super::numbered_sets::{NumberedSets, numbered_sets};
 use super::set_starts::{spans, starts};
@@ -21,23 +23,26 @@ use lab_world::Game;
 use std::alloc::{AllocError, Global};
 use std::marker::Model;
 
-/// The sets of a seat in order, the set of each history that is not terminal, where the sets of each node start, and the sets inside each subgame.
+/// The sets of a seat in order, how many decisions are on the way up to each, the set of each history that is not terminal, where the sets of each node start, and the sets inside each subgame.
 #[derive(Drop)]
 pub struct SeatSets {
     sets: Vec<SetInfo>,
+    decisions: Vec<u32>,
     of: Vec<Option<SetId>>,
     starts: Vec<u32>,
     spans: Vec<Span>,
 }
 
 impl Model for SeatSets {
+    ghost use Rattle.std.specs.Prelude.{◌≡◌};
+    ghost use Rattle.lab_tree.specs.Decisions.{set_decisions};
     ghost use Rattle.lab_tree.specs.SetValues.{SetsValue, sets_between, AreBounds};
 
     ghost Value = { SetsValue };
 
     ghost view = { λ s. record { sets = s.sets.items; set_of = s.of.items; starts = s.starts.items; node_sets = sets_between s.sets.items s.starts.items; spans = s.spans.items } };
 
-    ghost invariant = { λ s. AreBounds s.sets.items s.starts.items };
+    ghost invariant = { λ s. AreBounds s.sets.items s.starts.items × (s.decisions.items ≡ set_decisions s.sets.items) };
 }
 
 impl SeatSets {
@@ -66,10 +71,12 @@ impl SeatSets {
             firsts,
             nodes.all_of(),
         )?;
+        let decisions = decision_counts(alloc, sets.as_slice())?;
         let starts = starts(alloc, sets.as_slice(), nodes.count())?;
         let spans = spans(alloc, starts.as_slice(), nodes.ends())?;
         Ok(SeatSets {
             sets,
+            decisions,
             of,
             starts,
             spans,
@@ -81,6 +88,13 @@ impl SeatSets {
         ensures { result.now ≡ self.now.sets }
     {
         self.sets.as_slice()
+    }
+
+    /// For each set how many deciding sets the way up to it has, it included.
+    pub fn decisions(&self) -> &[u32]
+        ensures { result.now ≡ set_decisions self.now.sets }
+    {
+        self.decisions.as_slice()
     }
 
     /// The set of a history that is not terminal.
@@ -102,7 +116,7 @@ impl SeatSets {
         self.of.as_slice()
     }
 
-    /// For each number of a node, and for that behind them, how many sets stand at nodes before it.
+    /// For each number of a node, and for that after them, how many sets are at nodes before it.
     pub fn starts(&self) -> &[u32]
         ensures { result.now ≡ self.now.starts }
     {

@@ -15,7 +15,7 @@ use super::forms::form_of;
 use super::nodes::Nodes;
 use super::paths::SeatPaths;
 use super::rows::Rows;
-use super::seats::{nodes_of, paths_of, sets_of};
+use super::seats::{nodes_of, sets_of};
 use super::sets::SeatSets;
 use crate::{NodeId, PathWalk, RowInfo, SetInfo};
 use lab_form::{Form, SetId, Span};
@@ -81,8 +81,8 @@ fn made_parts(
     let nodes = nodes_of(alloc, game, histories)?;
     let one = sets_of(alloc, game, histories, 1, firsts.one.as_slice(), &nodes)?;
     let two = sets_of(alloc, game, histories, 2, firsts.two.as_slice(), &nodes)?;
-    let paths1 = paths_of(alloc, game, 1, &nodes, &one)?;
-    let paths2 = paths_of(alloc, game, 2, &nodes, &two)?;
+    let paths1 = SeatPaths::build(alloc, &one, nodes.parents())?;
+    let paths2 = SeatPaths::build(alloc, &two, nodes.parents())?;
     let rows = Rows::build(
         alloc,
         game,
@@ -221,7 +221,7 @@ impl Tree {
         self.seat(seat).span(node)
     }
 
-    /// The set of a seat, 1 or 2, where a history that is not terminal stands.
+    /// The set of a seat, 1 or 2, at a history that is not terminal.
     pub fn set_of(&self, seat: u32, history: HistoryId) -> SetId
         requires seat { (seat ≡ 1) ⊎ (seat ≡ 2) }
         requires there { history.0 < length self.now.unfolded.items }
@@ -258,8 +258,8 @@ impl Tree {
         let scale = self.histories.scale();
         form_of(
             self.alloc,
-            self.one.sets(),
-            self.two.sets(),
+            &self.one,
+            &self.two,
             self.rows.all(),
             [scale.most1, scale.most2],
         )

@@ -1,43 +1,21 @@
 //! Walks along paths.
 
-ghost use Rattle.std.specs.Prelude.{
-  ◌≡◌,
-  ◌+◌,
-  ◌-◌,
-  ◌<◌,
-  ◌≤◌,
-  ◌^◌,
-  ℕ,
-  [],
-  None,
-  Some,
-  length,
-  map,
-  slice_get,
-  slice_index,
-  slice_index_or,
-  slice_range,
-  IfOk,
-};
-ghost use Rattle.lab_tree.specs.Ways.{
-  AreWays,
-  IsBefore,
-  base_next,
-  bases_of,
-  path_in,
-};
+ghost use Rattle.std.specs.Prelude.{◌≡◌, ◌+◌, ◌<◌, ◌≤◌, ℕ, [], None, length, slice_index, slice_index_or, IfOk};
+ghost use Rattle.std.specs.List.Sorted.{IsNonDecreasing};
+ghost use Rattle.lab_tree.specs.Ways.{AreWays, IsBefore, base_next, bases_of, path_in};
 
 use crate::{NodeId, PathItem};
 use std::alloc::{AllocError, Global};
 
-/// How many items stand on the way up to each node.
+/// How many items are on the way up to each node.
 pub fn bases(
     alloc: Global,
     starts: &[u32],
     parents: &[Option<NodeId>],
-    count: u32,
 ) -> Result<Vec<u32>, AllocError>
-    requires { AreWays count starts.now parents.now }
+    requires long { length starts.now ≡ length parents.now + 1 }
+    requires rise { IsNonDecreasing starts.now }
+    requires before { (n : ℕ) → n < length parents.now → IsBefore n (slice_index_or parents.now n None) }
     ensures { IfOk result (λ b. b.items ≡ bases_of starts.now parents.now) }
 {
     let mut bases = Vec::new(alloc);
@@ -51,7 +29,7 @@ pub fn bases(
 fn base(starts: &[u32], bases: &[u32], parent: Option<NodeId>, node: usize) -> u32
     requires before { IsBefore node parent }
     requires long { node < length starts.now }
-    requires rise { (i j : ℕ) → i ≤ j → j < length starts.now → slice_index starts.now i ≤ slice_index starts.now j }
+    requires rise { IsNonDecreasing starts.now }
     requires count { length bases.now ≡ node }
     requires within { (k : ℕ) → k < node → slice_index bases.now k ≤ slice_index starts.now k }
     ensures value { result ≡ base_next starts.now node bases.now parent }
@@ -62,37 +40,6 @@ fn base(starts: &[u32], bases: &[u32], parent: Option<NodeId>, node: usize) -> u
     };
     let before = before.0 as usize;
     bases[before] + (starts[before + 1] - starts[before])
-}
-
-// The node where the item with a number on the path to a node stands.
-fn node_at(
-    items: &[PathItem],
-    starts: &[u32],
-    parents: &[Option<NodeId>],
-    bases: &[u32],
-    node: u32,
-    index: u32,
-) -> u32
-    requires ways { AreWays (length items.now) starts.now parents.now }
-    requires bases { bases.now ≡ bases_of starts.now parents.now }
-    requires node { node < length parents.now }
-    requires there { index < length (path_in items.now starts.now parents.now node) }
-    ensures node { result < length parents.now }
-    ensures from { slice_index bases.now result ≤ index }
-    ensures there { index < length (path_in items.now starts.now parents.now result) }
-    ensures same { (d : PathItem) → slice_index_or (path_in items.now starts.now parents.now node) index d
-        ≡ slice_index_or (path_in items.now starts.now parents.now result) index d }
-{
-    let _ = items;
-    let _ = starts;
-    let mut at = node;
-    while index < bases[at as usize] {
-        let Some(before) = parents[at as usize] else {
-            unreachable!();
-        };
-        at = before.0;
-    }
-    at
 }
 
 /// The item with a number on the path to a node.
@@ -110,6 +57,13 @@ pub fn item_at(
     requires there { index < length (path_in items.now starts.now parents.now node) }
     ensures { (d : PathItem) → slice_index_or (path_in items.now starts.now parents.now node) index d ≡ result }
 {
-    let at = node_at(items, starts, parents, bases, node, index) as usize;
-    items[(starts[at] + (index - bases[at])) as usize]
+    let mut at = node;
+    while index < bases[at as usize] {
+        let Some(before) = parents[at as usize] else {
+            unreachable!();
+        };
+        at = before.0;
+    }
+    let here = at as usize;
+    items[(starts[here] + (index - bases[here])) as usize]
 }

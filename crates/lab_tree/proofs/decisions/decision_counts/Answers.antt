@@ -5,7 +5,7 @@ use Rattle.lab_defs_game.specs.Forms.{decisions_to}
 use Rattle.lab_form.specs.Forms.{sets_model}
 use Rattle.lab_tree.specs.TreeForms.{form_sets}
 use Rattle.lab_tree.proofs.Parts.{told_next}
-use Rattle.lab_tree.proofs.forms.decision_counts.Goals as goal
+use Rattle.lab_tree.proofs.decisions.decision_counts.Goals as goal
 
 pub decision_count-requires-clause-counts : goal.decision_count-requires-clause-counts
 decision_count-requires-clause-counts c =

@@ -1,7 +1,7 @@
 use Rattle.std.proofs.Common.{◌≡◌, ◌<◌, length, get_or}
 use Rattle.lab_tree.specs.declared.info.PathItem.{PathItem}
 use Rattle.lab_tree.specs.Ways.{path_in}
-use Rattle.lab_tree.proofs.walk.node_at.Given as goal
+use Rattle.lab_tree.proofs.walk.item_at.Given as goal
 
 abbrev pub invariant-loop-at : goal.invariant-loop-at
 invariant-loop-at l = record {

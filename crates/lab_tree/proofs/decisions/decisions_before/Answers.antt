@@ -2,10 +2,10 @@ use Rattle.std.proofs.Common.{◌<◌, ◌≤◌, length, take, ap, ◌∙◌, s
 use Rattle.std.proofs.lemmas.List.{length-map, length-take-le}
 use Rattle.lab_defs_game.specs.Forms.{actions_in, deciding, decisions_to}
 use Rattle.lab_form.specs.Forms.{IsStepBelow, taken_model, sets_model, whole_path}
-use Rattle.lab_form.proofs.PathLemmas.{model_length, parents_below}
+use Rattle.lab_form.proofs.CallerLemmas.{model_length, parents_below}
 use Rattle.lab_tree.specs.TreeForms.{form_set, form_sets}
 use Rattle.lab_tree.proofs.TreeFormLemmas.{decisions_of, counted_at}
-use Rattle.lab_tree.proofs.forms.decisions_before.Goals as goal
+use Rattle.lab_tree.proofs.decisions.decisions_before.Goals as goal
 
 pub returns : goal.returns
 returns c =

@@ -2,10 +2,10 @@ use Rattle.std.proofs.Common.{rules, ◌≡◌, ℕ, ◌+◌, ◌<◌, ◌^◌, 
 use Rattle.std.proofs.lemmas.List.{length-map}
 use Rattle.std.proofs.lemmas.Bool.{le-leb, lt-leb}
 use Rattle.lab_form.specs.Forms.{sets_model}
-use Rattle.lab_form.proofs.PathLemmas.{model_length}
+use Rattle.lab_form.proofs.CallerLemmas.{model_length}
 use Rattle.lab_tree.specs.TreeForms.{form_set, form_sets}
 use Rattle.lab_tree.proofs.TreeFormLemmas.{set_next, more_decisions, decisions_short}
-use Rattle.lab_tree.proofs.forms.decision_count.Goals as goal
+use Rattle.lab_tree.proofs.decisions.decision_count.Goals as goal
 
 pub decisions_before-before-requires-clause-below : goal.decisions_before-before-requires-clause-below
 decisions_before-before-requires-clause-below c = (set_next c.args.sets.now (length c.args.counts.now) _ c.requires.sets c.requires.below).parent
