@@ -1,6 +1,7 @@
 pub mod ActionLemmas
 pub mod Begins
 pub mod BehindLemmas
+pub mod CallerLemmas
 pub mod ClassLemmas
 pub mod NodeLemmas
 pub mod NodesMade
