@@ -9,7 +9,7 @@ use Rattle.lab_seen.specs.Firsts.{is_inner}
 abbrev pub history_at : GameModel → ℕ → History
 history_at g n = slice_index_or (histories g) n []
 
--- the history p stands before the history n, is not terminal, and what a seat has seen at n is this item more
+-- the history p is before the history n, is not terminal, and what a seat has seen at n is this item more
 pub record IsBehind (g : GameModel) (seat n p : ℕ) (x : Item) : Type 0 where
   pub before : p < n
   pub inner : is_inner g (history_at g p) ≡ true

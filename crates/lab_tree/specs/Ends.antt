@@ -32,6 +32,6 @@ AreCuts (a ∷ bs) n = (a ≡ 0) × CutsFrom a bs n
 abbrev pub ends_before : List End → ℕ → ℕ
 ends_before ends node = count (λ e. nat_lt e.node node) ends
 
--- for each of so many nodes, and behind the last one, how many are at nodes before
+-- for each of so many nodes, and after the last one, how many are at nodes before
 abbrev pub end_starts : List End → ℕ → List ℕ
 end_starts ends nodes = map (ends_before ends) (range_with_len 0 (nodes + 1))

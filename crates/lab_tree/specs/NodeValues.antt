@@ -11,7 +11,7 @@ use Rattle.lab_tree.specs.declared.info.NodeId.{NodeId}
 use Rattle.lab_tree.specs.Behind.{history_at}
 use Rattle.lab_tree.specs.Trees.{node_id}
 
--- the nodes in order by their public lists, the node of each history, the parent of each node, and the number behind that of the last node of its subgame
+-- the nodes in order by their public lists, the node of each history, the parent of each node, and the number after that of the last node of its subgame
 pub record NodesValue : Type 0 where
   pub nodes : List (List ℕ)
   pub node_of : List NodeId
@@ -29,11 +29,11 @@ abbrev pub parent_node : GameModel → List ℕ → Option NodeId
 parent_node g [] = None
 parent_node g (t ∷ ts) = Some (node_id (nodes.node_number g (without_last (t ∷ ts))))
 
--- the number behind that of the last of these keys that a key begins
+-- the number after that of the last of these keys that a key begins
 abbrev pub end_among : List (List ℕ) → List ℕ → ℕ
 end_among keys k = number_of list_cmp keys k + count (nodes.begins k) keys
 
--- the number behind that of the last node of a subgame
+-- the number after that of the last node of a subgame
 abbrev pub node_end : GameModel → List ℕ → ℕ
 node_end g node = end_among (nodes.nodes g) node
 

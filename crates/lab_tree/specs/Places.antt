@@ -30,7 +30,7 @@ place_at sets i = count (is_kin (set_read sets i)) (take i sets)
 abbrev pub kin_count : List SetInfo → ℕ → ℕ
 kin_count sets i = count (is_kin (set_read sets i)) sets
 
--- that of the set that stands so many before the last one
+-- that of the set that is so many before the last one
 abbrev pub count_back : List SetInfo → ℕ → ℕ
 count_back sets k = kin_count sets (length sets - 1 - k)
 
@@ -38,7 +38,7 @@ count_back sets k = kin_count sets (length sets - 1 - k)
 abbrev pub AreGrouped : List SetInfo → Type 0
 AreGrouped sets = (i j k : ℕ) → i ≤ j → j ≤ k → k < length sets → is_kin (set_read sets i) (set_read sets k) ≡ true → is_kin (set_read sets i) (set_read sets j) ≡ true
 
--- which item a set is on each path through it: as many stand on the way up to its node and before it there
+-- which item a set is on each path through it: as many as are on the way up to its node and before it there
 abbrev pub index_of : List SetInfo → (starts bases : List ℕ) → ℕ → ℕ
 index_of sets starts bases j = slice_index bases (set_read sets j).node.0 + (j - slice_index starts (set_read sets j).node.0)
 
@@ -60,7 +60,7 @@ abbrev pub IsEarlier : ℕ → Option (SetId × ℕ) → Type 0
 IsEarlier i None = ⊤
 IsEarlier i (Some t) = t.0.0 < i
 
--- each set follows an earlier one, and stands behind where those of its node begin
+-- each set follows an earlier one, and is after where those of its node begin
 pub record AreAtNodes (sets : List SetInfo) (starts bases : List ℕ) : Type 0 where
   pub long : length bases ≤ length starts
   pub small : (n : ℕ) → n < length bases → slice_index bases n ≤ slice_index starts n

@@ -1,7 +1,7 @@
--- Places in a list, by what stands there.
+-- Places in a list, by what is there.
 use Rattle.std.specs.Prelude.{ℕ, ◌≡◌, ◌<◌, List, length, slice_index, slice_index_or}
 
--- no number stands at two places
+-- no number is at two places
 abbrev pub AreApart : {K : Type 0} → List (K × ℕ) → Type 0
 AreApart {K} order = (i j : ℕ) (d : K × ℕ) → i < length order → j < length order → (slice_index_or order i d).1 ≡ (slice_index_or order j d).1 → i ≡ j
 

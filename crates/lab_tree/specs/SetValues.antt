@@ -15,7 +15,7 @@ use Rattle.lab_tree.specs.declared.info.SetInfo.{SetInfo}
 use Rattle.lab_tree.specs.Behind.{history_at}
 use Rattle.lab_tree.specs.Trees.{set_id, node_id, taken_in, set_in, set_at, span_in}
 
--- the sets of a seat in order, the set of each history that is not terminal, for each number of a node, and behind them, how many sets stand at nodes before it, the sets at each node, and those inside its subgame
+-- the sets of a seat in order, the set of each history that is not terminal, for each number of a node, and after them, how many sets are at nodes before it, the sets at each node, and those inside its subgame
 pub record SetsValue : Type 0 where
   pub sets : List SetInfo
   pub set_of : List (Option SetId)
@@ -23,11 +23,11 @@ pub record SetsValue : Type 0 where
   pub node_sets : List (List SetInfo)
   pub spans : List Span
 
--- how many of these sets stand at nodes before the one with a number
+-- how many of these sets are at nodes before the one with a number
 abbrev pub start_of : List SetInfo → ℕ → ℕ
 start_of sets n = count (λ s. nat_lt s.node.0 n) sets
 
--- that of each of so many nodes, and of the number behind them
+-- that of each of so many nodes, and of the number after them
 abbrev pub starts_of : List SetInfo → ℕ → List ℕ
 starts_of sets n = map (start_of sets) (range_with_len 0 (n + 1))
 
@@ -68,10 +68,10 @@ set_with g seat s number first_weight = record {
 abbrev pub ranked_set : GameModel → (firsts ranks : List ℕ) → ℕ → Option SetId
 ranked_set g firsts ranks i = if is_inner g (history_at g i) then Some (set_id (slice_index ranks (slice_index firsts i))) else None
 
--- no set stands at a node before that of an earlier one
+-- no set is at a node before that of an earlier one
 abbrev pub AreRising : List SetInfo → Type 0
 AreRising sets = (i j : ℕ) (d : SetInfo) → i ≤ j → j < length sets → (slice_index_or sets i d).node.0 ≤ (slice_index_or sets j d).node.0
 
--- the sets of each node end where those of the next one start, at most behind the last one
+-- the sets of each node end where those of the next one start, at most after the last one
 abbrev pub AreBounds : List SetInfo → List ℕ → Type 0
 AreBounds sets starts = (n : ℕ) → n + 1 < length starts → (slice_index starts n ≤ slice_index starts (n + 1)) × (slice_index starts (n + 1) ≤ length sets)

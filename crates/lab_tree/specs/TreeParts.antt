@@ -11,7 +11,7 @@ use Rattle.lab_tree.specs.TreeForms.{all_rows, AreFormParts}
 use Rattle.lab_tree.specs.Trees.{SeatValue, TreeValue, tree_of}
 use Rattle.lab_tree.specs.Ways.{all_paths}
 
--- the histories, the nodes, for each seat the sets and what stands on paths, and for each node its terminal histories
+-- the histories, the nodes, for each seat the sets and the items of paths, and for each node its terminal histories
 pub record PartsValue : Type 0 where
   pub unfolded : Unfolded
   pub nodes : NodesValue
@@ -21,7 +21,7 @@ pub record PartsValue : Type 0 where
   pub paths2 : PathsValue
   pub node_rows : List (List RowInfo)
 
--- what stands on the paths of a seat of a game
+-- the items of the paths of a seat of a game
 abbrev pub paths_in : GameModel → ℕ → PathsValue
 paths_in g seat = paths_by (sets_in g seat).sets (sets_in g seat).starts (nodes_in g).parents
 
@@ -51,7 +51,7 @@ tree_with v = record {
   node_rows = v.node_rows;
 }
 
--- something is told of each history and of each node
+-- there is an entry for each history and for each node
 pub record AreSeatParts (histories nodes : ℕ) (s : SetsValue) : Type 0 where
   pub set_of : length s.set_of ≡ histories
   pub node_sets : length s.node_sets ≡ nodes
@@ -70,7 +70,7 @@ pub record AreParts (v : PartsValue) : Type 0 where
   pub form : AreFormParts v.one.sets v.two.sets (all_rows (tree_with v))
   pub few : length (all_rows (tree_with v)) < 2 ^ 32
 
--- what is told of a seat by its sets
+-- what the sets of a seat say of it
 pub record IsSeatValue (v : SeatValue) (s : SetsValue) : Type 0 where
   pub set_of : s.set_of ≡ v.set_of
   pub node_sets : s.node_sets ≡ v.node_sets

@@ -14,7 +14,7 @@ use Rattle.lab_tree.specs.Places.{AreAtNodes, AreGrouped, items_of}
 abbrev pub tree_sets : GameModel → ℕ → List SetInfo
 tree_sets g seat = map (set_in g seat) (sets g seat)
 
--- for each node, and behind the last one, how many sets stand at nodes before it
+-- for each node, and after the last one, how many sets are at nodes before it
 pub record AreStarts (g : GameModel) (sets : List SetInfo) (starts : List ℕ) : Type 0 where
   pub long : length starts ≡ length (nodes g) + 1
   pub is : (n : ℕ) → n < length starts → slice_index starts n ≡ count (λ s. nat_lt s.node.0 n) sets
@@ -33,16 +33,16 @@ pub record AreParents (g : GameModel) (parents : List (Option NodeId)) : Type 0 
 abbrev pub WayLaw : Type 0
 WayLaw = (g : GameModel) (seat : ℕ) (starts : List ℕ) (parents : List (Option NodeId)) → AreStarts g (tree_sets g seat) starts → AreParents g parents → AreWays (length (tree_sets g seat)) starts parents
 
--- the sets of a game's tree stand behind where those of their nodes begin, and follow earlier ones
+-- the sets of a game's tree are after where those of their nodes begin, and follow earlier ones
 abbrev pub AtNodesLaw : Type 0
 AtNodesLaw = (g : GameModel) (seat : ℕ) (starts : List ℕ) (parents : List (Option NodeId)) → AreStarts g (tree_sets g seat) starts → AreParents g parents
     → AreAtNodes (tree_sets g seat) starts (bases_of starts parents)
 
--- those that follow the same step at the same node stand side by side
+-- those that follow the same step at the same node are side by side
 abbrev pub GroupedLaw : Type 0
 GroupedLaw = (g : GameModel) (seat : ℕ) → AreGrouped (tree_sets g seat)
 
--- what stands on the way to a node, its sets as items, are the items of its path
+-- the sets on the way to a node, as items, are the items of its path
 abbrev pub PathsLaw : Type 0
 PathsLaw = (g : GameModel) (seat : ℕ) (starts : List ℕ) (parents : List (Option NodeId)) → AreStarts g (tree_sets g seat) starts → AreParents g parents
     → all_paths (items_of (tree_sets g seat) starts (bases_of starts parents)) starts parents ≡ (seat_in g seat).paths

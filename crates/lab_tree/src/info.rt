@@ -1,4 +1,4 @@
-//! What the tree tells of nodes, information sets and rows.
+//! Nodes, information sets and rows, as the tree reports them.
 
 use lab_form::SetId;
 use lab_unfold::HistoryId;
@@ -44,7 +44,7 @@ pub struct Follow {
     pub from: u32,
     /// The action by which it does.
     pub action: u32,
-    /// How many items that follow the same item by the same action stand before it.
+    /// How many items that follow the same item by the same action are before it.
     pub place: u32,
     /// How many there are of these in all.
     pub count: u32,

@@ -1,4 +1,4 @@
-//! What stands at the end of a history.
+//! Whether a history is terminal, and the actions at its end.
 
 ghost use Rattle.std.specs.Prelude.{◌≡◌, ◌⊎◌, ◌<◌, ◌≤◌, ◌==◌, if◌then◌else◌, None, length};
 ghost use Rattle.lab_defs_game.specs.Histories.{actions_at, place_of};

@@ -9,7 +9,7 @@ pub fn forms()
     ensures form { FormLaw }
 {}
 
-/// Nodes follow earlier ones, sets stand where those of their nodes begin, those that follow the same step at the same node stand side by side, and what stands on ways are the items of paths.
+/// Nodes follow earlier ones, sets are where those of their nodes begin, those that follow the same step at the same node are side by side, and the items on ways are those of paths.
 pub fn ways()
     ensures ways { WayLaw }
     ensures nodes { AtNodesLaw }

@@ -77,7 +77,7 @@ fn parent_of(game: &Game, histories: &Histories, of: &[NodeId], id: HistoryId) -
     }
 }
 
-/// The number behind that of the last node of each subgame.
+/// The number after that of the last node of each subgame.
 pub fn ends(alloc: Global, order: &[(NodeKey, u32)]) -> Result<Vec<u32>, AllocError>
     requires sorted { IsStrictlySortedBy list_cmp (keys_in order.now) }
     requires few { length order.now < 2 ^ 32 }
@@ -90,7 +90,7 @@ pub fn ends(alloc: Global, order: &[(NodeKey, u32)]) -> Result<Vec<u32>, AllocEr
     Ok(ends)
 }
 
-/// The number behind that of the last key that the key with a number begins.
+/// The number after that of the last key that the key with a number begins.
 fn run_end(order: &[(NodeKey, u32)], node: usize) -> usize
     requires sorted { IsStrictlySortedBy list_cmp (keys_in order.now) }
     requires there { node < length order.now }

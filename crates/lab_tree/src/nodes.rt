@@ -101,7 +101,7 @@ impl Nodes {
         self.parents.as_slice()
     }
 
-    /// The number behind that of the last node of each subgame.
+    /// The number after that of the last node of each subgame.
     pub fn ends(&self) -> &[u32]
         ensures { result.now ≡ self.now.ends }
     {

@@ -38,7 +38,7 @@ impl<'a> Model for PathWalk<'a> {
 }
 
 impl<'a> PathWalk<'a> {
-    /// The whole path to a node, from what stands at nodes, where this begins for each node, and the node before each.
+    /// The whole path to a node, from the items, where those of each node start, the parent of each node, and how many items are on the way up to each.
     pub(crate) fn to(
         items: &'a [PathItem],
         starts: &'a [u32],

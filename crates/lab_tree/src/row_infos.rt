@@ -1,4 +1,4 @@
-//! What is told of terminal histories.
+//! Rows: the chance and payoff of each terminal history, and its last sets.
 
 ghost use Rattle.std.specs.Prelude.{
   ◌≡◌,

@@ -92,7 +92,7 @@ fn part<'a>(items: &'a [RowInfo], starts: &[u32], number: usize) -> &'a [RowInfo
     between(items, starts, number)
 }
 
-// What stands from one place of a list to the next.
+// The items from one place of a list to the next.
 fn between<'a>(items: &'a [RowInfo], starts: &[u32], number: usize) -> &'a [RowInfo]
     requires there { number + 1 < length starts.now }
     requires order { slice_index starts.now number ≤ slice_index starts.now (number + 1) }

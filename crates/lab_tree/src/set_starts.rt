@@ -8,7 +8,7 @@ use crate::SetInfo;
 use lab_form::Span;
 use std::alloc::{AllocError, Global};
 
-/// How many sets stand at nodes before each of so many, and before the number behind them.
+/// How many sets are at nodes before each of so many, and before the number after them.
 pub fn starts(alloc: Global, sets: &[SetInfo], nodes: u32) -> Result<Vec<u32>, AllocError>
     requires rising { AreRising sets.now }
     requires few { length sets.now < 2 ^ 32 }
@@ -23,7 +23,7 @@ pub fn starts(alloc: Global, sets: &[SetInfo], nodes: u32) -> Result<Vec<u32>, A
     Ok(starts)
 }
 
-// How many sets stand at nodes before this one, as many as `from` being known to.
+// How many sets are at nodes before this one, as many as `from` being known to.
 fn start_from(sets: &[SetInfo], from: usize, node: usize) -> usize
     requires rising { AreRising sets.now }
     requires known { from ≤ start_of sets.now node }

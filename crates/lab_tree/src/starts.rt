@@ -7,7 +7,7 @@ ghost use Rattle.lab_tree.specs.Ends.{ends_before, end_starts};
 use super::end::End;
 use std::alloc::{AllocError, Global};
 
-/// For each of so many nodes, and behind the last one, how many terminal histories are at nodes before.
+/// For each of so many nodes, and after the last one, how many terminal histories are at nodes before.
 pub fn starts(alloc: Global, ends: &[End], nodes: u32) -> Result<Vec<u32>, AllocError>
     requires rising { IsNonDecreasingBy (λ e. e.node) ends.now }
     requires few { length ends.now < 2 ^ 32 }
