@@ -5,7 +5,7 @@ use lib.Chars.{codes}
 use Rattle.lab_math.specs.Sums.{sum_over}
 use Rattle.lab_math.proofs.NaturalSums.{sum_over-append}
 use Rattle.lab_defs_text.specs.Words.{Bytes}
-use Rattle.lab_defs_text.specs.Lines.{Line, one_line, two_line, row_line, to_line, root_line, done_line, joined, words_of, bytes_of, text_of}
+use Rattle.lab_defs_text.specs.Lines.{Line, one_line, two_line, row_line, to_line, root_line, done_line, joined, bytes_of, text_of}
 use Rattle.lab_defs_text.specs.Drafts.{Draft, PartPlace, part_world, part_end, PartRow, PartOutcome, parts_of}
 use Rattle.lab_defs_text.specs.Reading.{done_kind}
 use Rattle.lab_defs_text.proofs.PartsLemmas.{parts_sound}
