@@ -19,12 +19,13 @@ use Rattle.lab_defs_game.proofs.RecallLemmas.{not_both}
 use Rattle.lab_defs_text.specs.Words.{Bytes}
 use Rattle.lab_defs_text.specs.Texts.{name_of, place_at}
 use Rattle.std.specs.List.{slice_get}
+use Rattle.lab_world.specs.declared.place.ActionId.{ActionId}
 use Rattle.lab_world.specs.declared.place.World as program
 use Rattle.lab_world.specs.Models.{world_model, action_list}
 use Rattle.lab_unfold.specs.declared.history.History as lab
 use Rattle.lab_unfold.specs.Values.{Unfolded, unfolded}
-use Rattle.lab_seen.proofs.StepItems.{read_here}
-use Rattle.lab_tree.specs.Behind.{history_at}
+use Rattle.lab_unfold.proofs.CallerLemmas.{read_here}
+use Rattle.lab_unfold.specs.Parents.{history_at}
 
 -- ---- lists of lists
 
@@ -138,10 +139,11 @@ actions_few g seat h ok accepted i = at (place_of g h) refl
 -- ---- as the program has them
 
 -- the actions of a seat at a world
-pub actions_are : (actions : List Bytes) (w : program.World) (seat n : ℕ) (p : Place) → p ≡ a_world (world_model actions w) → n ≡ cond (seat == 1) (length w.one) (length w.two) → n ≡ actions_at seat p
-actions_are actions w seat n p e k = k ∙ at (seat == 1) ∙ ap (actions_at seat) (sym e)
+pub actions_are : (actions : List Bytes) (w : program.World) (seat : ℕ) (ids : List ActionId) (p : Place) → p ≡ a_world (world_model actions w) → ids ≡ cond (seat == 1) w.one w.two
+    → length ids ≡ actions_at seat p
+actions_are actions w seat ids p e k = ap length k ∙ at (seat == 1) ∙ ap (actions_at seat) (sym e)
   where
-    at : (b : Bool) → cond b (length w.one) (length w.two) ≡ cond b (length (action_list actions w.one)) (length (action_list actions w.two))
+    at : (b : Bool) → length (cond b w.one w.two) ≡ cond b (length (action_list actions w.one)) (length (action_list actions w.two))
     at true = sym (length-map w.one (λ i. name_of actions i.0))
     at false = sym (length-map w.two (λ i. name_of actions i.0))
 

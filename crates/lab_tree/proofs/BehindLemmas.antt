@@ -11,10 +11,11 @@ use Rattle.std.proofs.lemmas.List.{reverse-append, append_assoc}
 use Rattle.lab_unfold.specs.declared.history.HistoryId.{HistoryId}
 use Rattle.lab_unfold.specs.declared.history.History.{History}
 use Rattle.lab_unfold.specs.Values.{Unfolded, unfolded}
-use Rattle.lab_seen.proofs.StepItems.{last_behind, read_parent}
-use Rattle.lab_seen.specs.declared.item.Item as program
-use Rattle.lab_seen.specs.Items.{item_model, last_item}
-use Rattle.lab_tree.specs.Behind.{IsBehind, history_at}
+use Rattle.lab_unfold.proofs.CallerLemmas.{last_behind, read_parent}
+use Rattle.lab_unfold.specs.Parents.{history_at}
+use Rattle.lab_tree.specs.Behind.{IsBehind}
+use Rattle.lab_unfold.specs.declared.item.Item as program
+use Rattle.lab_unfold.specs.Items.{item_model, last_item}
 
 module _ (g : GameModel) (seat i : ℕ) (u : Unfolded) (h : History) (e : u ≡ unfolded g) (found : slice_get u.items i ≡ Some h) where
   -- the history before, with what is seen of the last step

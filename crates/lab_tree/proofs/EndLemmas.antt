@@ -24,7 +24,7 @@ use Rattle.lab_defs_game.proofs.Spans.{eq_is}
 use Rattle.lab_defs_game.proofs.GameLemmas.{node_has, nodes_ascending}
 use Rattle.lab_defs_game.proofs.HistoryCounts.{history_count_law}
 use Rattle.lab_defs_game.proofs.UnfoldLaws.{accepted_law}
-use Rattle.lab_unfold.proofs.ChildLemmas.{map_flat}
+use Rattle.lab_unfold.proofs.CallerLemmas.{map_flat}
 use Rattle.lab_tree.specs.declared.end.End.{End}
 use Rattle.lab_tree.specs.Ends.{end_in, ends_before, end_starts, parts_of, CutsFrom, AreCuts}
 use Rattle.lab_tree.proofs.Grouping.{with_key, sorted_is}

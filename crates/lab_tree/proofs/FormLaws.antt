@@ -32,7 +32,7 @@ use Rattle.lab_form.specs.declared.items.FormSet.{FormSet}
 use Rattle.lab_form.specs.declared.items.FormRow.{FormRow}
 use Rattle.lab_form.specs.Forms.{actions_in, taken_model, set_model, sets_model, whole_path, row_model, IsStepBelow, IsNextSet, IsNextRow, AreSets, AreRows}
 use Rattle.lab_form.proofs.CallerLemmas.{model_length, model_actions, parents_below}
-use Rattle.lab_unfold.proofs.ChildLemmas.{map_flat}
+use Rattle.lab_unfold.proofs.CallerLemmas.{map_flat}
 use Rattle.lab_tree.specs.declared.info.RowInfo.{RowInfo}
 use Rattle.lab_tree.specs.Trees.{taken_in, set_in, row_in, last_in, tree_of}
 use Rattle.lab_tree.specs.TreeForms.{form_set, form_sets, form_row, all_rows, FormPartsLaw, FormLaw}

@@ -23,7 +23,7 @@ use Rattle.lab_defs_game.proofs.NumberLemmas.{no_less, number_same}
 use Rattle.lab_defs_game.proofs.Orders.{list_total, item_total, item_exact, set_total, then_less, publics-push}
 use Rattle.lab_defs_game.proofs.TreeLaws.{push_parts, push_some}
 use Rattle.lab_form.specs.declared.items.SetId.{SetId}
-use Rattle.lab_unfold.proofs.BirthLemmas.{at_less}
+use Rattle.lab_unfold.proofs.CallerLemmas.{at_less}
 use Rattle.lab_tree.specs.declared.info.SetInfo.{SetInfo}
 use Rattle.lab_tree.specs.Trees.{set_in, taken_in}
 use Rattle.lab_tree.specs.Places.{is_kin, set_read}

@@ -6,8 +6,8 @@ use Rattle.std.specs.declared.cmp.Ordering.TheVariants.{Less, Equal, Greater}
 use Rattle.std.proofs.lemmas.Bool.{lt-ltb, le-ltb, ne_eqb, eq-eqb, cases_order}
 use Rattle.lab_defs_game.specs.Keys.{list_cmp}
 use Rattle.lab_defs_game.specs.Sets.{publics}
-use Rattle.lab_seen.specs.Items.{item_model}
-use Rattle.lab_seen.specs.declared.item.Item.{Item}
+use Rattle.lab_unfold.specs.Items.{item_model}
+use Rattle.lab_unfold.specs.declared.item.Item.{Item}
 
 is_less : (a b : ℕ) → a < b → nat_cmp a b ≡ Less
 is_less a b l = ap (λ t. cond t Less (cond (eqb a b) Equal Greater)) (lt-ltb a b l)

@@ -28,11 +28,10 @@ use Rattle.lab_defs_game.proofs.Spans.{eq_is}
 use Rattle.lab_defs_game.proofs.GameLemmas.{nodes_ascending, steps_inner}
 use Rattle.lab_defs_game.proofs.TreeLaws.{along_law}
 use Rattle.lab_defs_game.proofs.UnfoldLaws.{accepted_law}
-use Rattle.lab_unfold.proofs.LevelLemmas.{ascending, number_is}
+use Rattle.lab_unfold.proofs.CallerLemmas.{ascending, number_is, scale_le, all_length}
+use Rattle.lab_unfold.specs.Parents.{history_at, Behind}
 use Rattle.lab_unfold.specs.Values.{Unfolded, unfolded, history_number, step_in}
 use Rattle.lab_unfold.specs.declared.history.Step.{Step}
-use Rattle.lab_unfold.proofs.ParentLemmas.{history_at, Behind}
-use Rattle.lab_unfold.proofs.SizeLemmas.{scale_le}
 use Rattle.lab_defs_game.proofs.ChanceSizes.{chance_le}
 use Rattle.lab_units.specs.declared.worth.Worth.{Worth}
 use Rattle.lab_form.specs.declared.items.SetId.{SetId}
@@ -40,7 +39,6 @@ use Rattle.lab_tree.specs.declared.end.End.{End}
 use Rattle.lab_tree.specs.declared.info.RowInfo.{RowInfo}
 use Rattle.lab_tree.specs.Trees.{row_cmp, set_id, set_at, taken_in, last_in, row_in}
 use Rattle.lab_tree.specs.Ends.{end_in}
-use Rattle.lab_tree.proofs.Reading.{items_count}
 
 -- ---- counting
 
@@ -159,7 +157,7 @@ end_at g u ends k d e all l =
     let t = end_there g h (in_get_or (ends_by_nodes g) k [] below) in
     let is : history_at g (get_or ends k d).history ≡ h = ap (history_at g) n ∙ at_number history_cmp history_total (model.histories g) h [] (ascending g) t.0 in
     record {
-      there = subst (λ m. m < length u.items) (sym n) (subst (λ m. history_number g h < m) (sym (items_count g u e)) (number_below history_cmp history_total (model.histories g) h (ascending g) t.0));
+      there = subst (λ m. m < length u.items) (sym n) (subst (λ m. history_number g h < m) (sym (all_length g u.items (ap (λ (u : Unfolded). u.items) e))) (number_below history_cmp history_total (model.histories g) h (ascending g) t.0));
       below = subst (λ m. m < length (model.histories g)) (sym n) (number_below history_cmp history_total (model.histories g) h (ascending g) t.0);
       is = is;
       terminal = ap (model.is_terminal g) is ∙ t.1;

@@ -21,10 +21,11 @@ use Rattle.lab_defs_game.proofs.Orders.{set_total}
 use Rattle.lab_defs_game.proofs.TreeLaws.{parent_push}
 use Rattle.lab_defs_value.specs.Tables.{first_weight, weights_of}
 use Rattle.lab_form.specs.declared.items.SetId.{SetId}
-use Rattle.lab_seen.specs.Firsts.{is_inner}
+use Rattle.lab_unfold.specs.Firsts.{is_inner}
 use Rattle.lab_tree.specs.declared.info.NodeId.{NodeId}
 use Rattle.lab_tree.specs.declared.info.SetInfo.{SetInfo}
-use Rattle.lab_tree.specs.Behind.{IsBehind, history_at}
+use Rattle.lab_unfold.specs.Parents.{history_at}
+use Rattle.lab_tree.specs.Behind.{IsBehind}
 use Rattle.lab_tree.specs.SetValues.{HasSeen, set_with}
 use Rattle.lab_tree.specs.Trees.{node_id, set_id, set_at, set_in, taken_in}
 

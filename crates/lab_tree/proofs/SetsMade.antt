@@ -1,5 +1,6 @@
 -- The information sets of a seat, as they are made from the first histories of them.
-use Rattle.std.proofs.Common.{◌≡◌, ℕ, ◌<◌, ◌≤◌, List, [], true, cond, Bool, false, length, get_or, map, ◌&&◌, Option, Some, None, refl, sym, ap, ◌∙◌, subst, arith}
+use Rattle.std.proofs.Common.{◌≡◌, ℕ, ◌<◌, ◌≤◌, List, [], true, cond, Bool, false, length, get_or, map, ◌&&◌, Option, Some, None, refl, sym, ap, ◌∙◌, subst, arith, ◌⊎◌}
+use Rattle.std.specs.Prelude.{◌==◌, if◌then◌else◌}
 use Rattle.std.specs.List.{All, range_with_len}
 use Rattle.std.specs.Ordering.{is_eq}
 use Rattle.std.proofs.lemmas.List.{ext_get_or, get_or-map, length-map, get_or_default}
@@ -13,9 +14,10 @@ use Rattle.lab_defs_game.specs.Sets.{Item, seen, set_cmp, sets, set_number}
 use Rattle.lab_defs_game.proofs.KeyLemmas.{length_merged}
 use Rattle.lab_defs_game.proofs.Orders.{set_total, set_exact}
 use Rattle.lab_form.specs.declared.items.SetId.{SetId}
-use Rattle.lab_seen.specs.Firsts.{AreFirsts, is_inner}
+use Rattle.lab_unfold.specs.Firsts.{AreFirsts, is_inner}
 use Rattle.lab_unfold.specs.Values.{Unfolded, unfolded}
-use Rattle.lab_tree.specs.Behind.{history_at}
+use Rattle.lab_unfold.proofs.CallerLemmas.{read_set_firsts}
+use Rattle.lab_unfold.specs.Parents.{history_at}
 use Rattle.lab_tree.specs.Keyed.{keyed}
 use Rattle.lab_tree.specs.NodeValues.{keys_in, pair_cmp}
 use Rattle.lab_tree.specs.Ranks.{AreApart, AreRanks}
@@ -30,10 +32,10 @@ pub record SetsMade (g : GameModel) (seat : ℕ) (firsts : List ℕ) (order : Li
   pub order_is : order ≡ in_order (pair_cmp set_cmp) (keyed (is_inner g) (seen g seat) (histories g) firsts (length (histories g)))
 
 -- from what the functions say
-pub made : (g : GameModel) (seat : ℕ) (u : Unfolded) (firsts : List ℕ) (keys order : List (List Item × ℕ)) → u ≡ unfolded g → AreFirsts (is_inner g) (one_set g seat) u.histories firsts
-    → keys ≡ keyed (is_inner g) (seen g seat) (histories g) firsts (length (histories g)) → order ≡ in_order (pair_cmp set_cmp) keys → SetsMade g seat firsts order
-made g seat u firsts keys order e f k o = record {
-  firsts_are = subst (λ (u : Unfolded). AreFirsts (is_inner g) (one_set g seat) u.histories firsts) e f;
+pub made : (g : GameModel) (seat : ℕ) (u : Unfolded) (firsts : List ℕ) (keys order : List (List Item × ℕ)) → (seat ≡ 1) ⊎ (seat ≡ 2) → u ≡ unfolded g
+    → firsts ≡ (if seat == 1 then u.set_firsts1 else u.set_firsts2) → keys ≡ keyed (is_inner g) (seen g seat) (histories g) firsts (length (histories g)) → order ≡ in_order (pair_cmp set_cmp) keys → SetsMade g seat firsts order
+made g seat u firsts keys order s e f k o = record {
+  firsts_are = read_set_firsts g seat u firsts s e f;
   order_is = o ∙ ap (in_order (pair_cmp set_cmp)) k;
 }
 

@@ -1,13 +1,9 @@
 -- The history before the last step of another.
-use Rattle.std.specs.Prelude.{ℕ, ◌≡◌, ◌<◌, [], ◌∷◌, ◌++◌, true, slice_index_or}
+use Rattle.std.specs.Prelude.{ℕ, ◌≡◌, ◌<◌, [], ◌∷◌, ◌++◌, true}
 use Rattle.lab_defs_text.specs.Games.{GameModel}
-use Rattle.lab_defs_game.specs.Histories.{History, histories}
 use Rattle.lab_defs_game.specs.Sets.{Item, seen}
-use Rattle.lab_seen.specs.Firsts.{is_inner}
-
--- the history with a number
-abbrev pub history_at : GameModel → ℕ → History
-history_at g n = slice_index_or (histories g) n []
+use Rattle.lab_unfold.specs.Firsts.{is_inner}
+use Rattle.lab_unfold.specs.Parents.{history_at}
 
 -- the history p is before the history n, is not terminal, and what a seat has seen at n is this item more
 pub record IsBehind (g : GameModel) (seat n p : ℕ) (x : Item) : Type 0 where

@@ -8,7 +8,7 @@ use Rattle.lab_defs_game.specs.Histories.{histories}
 use Rattle.lab_defs_game.specs.Sets.{public_list}
 use Rattle.lab_defs_game.specs.Nodes as nodes
 use Rattle.lab_tree.specs.declared.info.NodeId.{NodeId}
-use Rattle.lab_tree.specs.Behind.{history_at}
+use Rattle.lab_unfold.specs.Parents.{history_at}
 use Rattle.lab_tree.specs.Trees.{node_id}
 
 -- the nodes in order by their public lists, the node of each history, the parent of each node, and the number after that of the last node of its subgame

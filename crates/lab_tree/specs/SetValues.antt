@@ -10,9 +10,9 @@ use Rattle.lab_defs_game.specs.Nodes as nodes
 use Rattle.lab_defs_game.specs.Paths.{parent}
 use Rattle.lab_form.specs.declared.items.SetId.{SetId}
 use Rattle.lab_form.specs.declared.items.Span.{Span}
-use Rattle.lab_seen.specs.Firsts.{is_inner}
+use Rattle.lab_unfold.specs.Firsts.{is_inner}
 use Rattle.lab_tree.specs.declared.info.SetInfo.{SetInfo}
-use Rattle.lab_tree.specs.Behind.{history_at}
+use Rattle.lab_unfold.specs.Parents.{history_at}
 use Rattle.lab_tree.specs.Trees.{set_id, node_id, taken_in, set_in, set_at, span_in}
 
 -- the sets of a seat in order, the set of each history that is not terminal, for each number of a node, and after them, how many sets are at nodes before it, the sets at each node, and those inside its subgame

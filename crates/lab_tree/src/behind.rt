@@ -4,11 +4,11 @@ ghost use Rattle.std.specs.Prelude.{◌≡◌, ◌⊎◌, ◌<◌, [], length, m
 ghost use Rattle.lab_defs_game.specs.Sets.{seen, public_list};
 ghost use Rattle.lab_world.specs.Games.{game_model};
 ghost use Rattle.lab_unfold.specs.Values.{unfolded};
-ghost use Rattle.lab_seen.specs.Items.{item_model};
-ghost use Rattle.lab_tree.specs.Behind.{IsBehind, history_at};
+ghost use Rattle.lab_unfold.specs.Items.{item_model};
+ghost use Rattle.lab_unfold.specs.Parents.{history_at};
+ghost use Rattle.lab_tree.specs.Behind.{IsBehind};
 
-use lab_seen::{Item, last_seen};
-use lab_unfold::{Histories, HistoryId};
+use lab_unfold::{Histories, HistoryId, Item, last_seen};
 use lab_world::Game;
 use std::alloc::{AllocError, Global};
 

@@ -1,23 +1,7 @@
 //! The terminal histories of a game by their nodes.
 
-ghost use Rattle.std.specs.Prelude.{
-  ◌≡◌,
-  ◌<◌,
-  [],
-  Some,
-  None,
-  true,
-  map,
-  length,
-  slice_index_or,
-  if◌then◌else◌,
-  IfOk,
-  IfSome,
-  IfNone,
-};
+ghost use Rattle.std.specs.Prelude.{◌≡◌, ◌<◌, [], Some, None, map, length, slice_index_or, if◌then◌else◌, IfOk};
 ghost use Rattle.std.specs.List.Sorted.{IsNonDecreasingBy};
-ghost use Rattle.lab_defs_text.specs.Games.{an_end};
-ghost use Rattle.lab_defs_text.specs.Texts.{place_at, is_world};
 ghost use Rattle.lab_defs_game.specs.Histories.{histories, is_terminal, terminal_histories};
 ghost use Rattle.lab_defs_game.specs.Nodes.{node_of, ends_by_nodes};
 ghost use Rattle.lab_world.specs.Games.{game_model};
@@ -26,9 +10,10 @@ ghost use Rattle.lab_tree.specs.Trees.{node_id};
 ghost use Rattle.lab_tree.specs.Ends.{end_in};
 
 use super::end::End;
+use super::inner::leads_on;
 use crate::NodeId;
 use lab_unfold::{Histories, HistoryId};
-use lab_world::{Game, Place, WorldId};
+use lab_world::Game;
 use std::alloc::{AllocError, Global};
 
 /// The terminal histories of a game by their nodes, and then by their numbers.
@@ -80,22 +65,11 @@ fn end_at(game: &Game, items: &Histories, nodes: &[NodeId], number: u32) -> Opti
         then Some (end_in (game_model game.now) (slice_index_or (histories (game_model game.now)) number []))
         else None) }
 {
-    let history = items.item(HistoryId(number));
-    end_payoff(game, history.world)?;
+    if leads_on(game, items, HistoryId(number)) {
+        return None;
+    }
     Some(End {
         node: nodes[number as usize].0,
         history: number,
     })
-}
-
-/// What the end with this number pays seat 1, if it is one.
-pub fn end_payoff(game: &Game, id: WorldId) -> Option<i32>
-    ensures some { IfSome result (λ z. place_at (game_model game.now) id.0 ≡ an_end z) }
-    ensures none { IfNone result (is_world (place_at (game_model game.now) id.0) ≡ true) }
-{
-    match game.places.as_slice().get(id.0 as usize) {
-        Some(Place::World(_)) => None,
-        Some(Place::End(payoff)) => Some(*payoff),
-        None => Some(0),
-    }
 }

@@ -5,7 +5,7 @@ ghost use Rattle.lab_defs_game.specs.Histories as model;
 ghost use Rattle.lab_defs_game.specs.Sets.{seen};
 ghost use Rattle.lab_world.specs.Games.{game_model};
 ghost use Rattle.lab_unfold.specs.Values.{unfolded};
-ghost use Rattle.lab_seen.specs.Firsts.{is_inner};
+ghost use Rattle.lab_unfold.specs.Firsts.{is_inner};
 ghost use Rattle.lab_tree.specs.Keyed as keys;
 
 use super::behind::seen_along;

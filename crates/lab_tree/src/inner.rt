@@ -1,15 +1,15 @@
 //! Whether a history is terminal, and the actions at its end.
 
-ghost use Rattle.std.specs.Prelude.{◌≡◌, ◌⊎◌, ◌<◌, ◌≤◌, ◌==◌, if◌then◌else◌, None, length};
+ghost use Rattle.std.specs.Prelude.{◌≡◌, ◌⊎◌, ◌<◌, ◌≤◌, None, length};
 ghost use Rattle.lab_defs_game.specs.Histories.{actions_at, place_of};
 ghost use Rattle.lab_defs_game.specs.Unfolding.{unfold_fault};
 ghost use Rattle.lab_world.specs.Games.{game_model};
 ghost use Rattle.lab_unfold.specs.Values.{unfolded};
-ghost use Rattle.lab_seen.specs.Firsts.{is_inner};
-ghost use Rattle.lab_tree.specs.Behind.{history_at};
+ghost use Rattle.lab_unfold.specs.Firsts.{is_inner};
+ghost use Rattle.lab_unfold.specs.Parents.{history_at};
 
-use lab_unfold::{Histories, HistoryId, world_at};
-use lab_world::{Game, World};
+use lab_unfold::{Histories, HistoryId};
+use lab_world::Game;
 
 /// Whether a history is not terminal.
 pub fn leads_on(game: &Game, histories: &Histories, id: HistoryId) -> bool
@@ -17,7 +17,7 @@ pub fn leads_on(game: &Game, histories: &Histories, id: HistoryId) -> bool
     requires there { id.0 < length histories.now.items }
     ensures { result ≡ is_inner (game_model game.now) (history_at (game_model game.now) id.0) }
 {
-    world_at(game, histories.item(id).world).is_some()
+    game.world(histories.item(id).world).is_some()
 }
 
 /// How many actions a seat, 1 or 2, has at the end of a history.
@@ -29,19 +29,8 @@ pub fn actions_after(game: &Game, histories: &Histories, seat: u32, id: HistoryI
     ensures value { result ≡ actions_at seat (place_of (game_model game.now) (history_at (game_model game.now) id.0)) }
     ensures small { result ≤ 65536 }
 {
-    match world_at(game, histories.item(id).world) {
-        Some(world) => actions_of(world, seat) as u32,
+    match game.world(histories.item(id).world) {
+        Some(world) => world.actions(seat).len() as u32,
         None => 0,
-    }
-}
-
-// How many actions a seat has at a world.
-fn actions_of(world: &World, seat: u32) -> usize
-    ensures { result ≡ (if seat == 1 then length world.now.one else length world.now.two) }
-{
-    if seat == 1 {
-        world.one.len()
-    } else {
-        world.two.len()
     }
 }

@@ -21,7 +21,6 @@ mod paths;
 mod places;
 mod row_infos;
 mod rows;
-mod seats;
 mod set_key;
 mod set_parts;
 mod set_starts;

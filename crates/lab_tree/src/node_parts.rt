@@ -21,7 +21,7 @@ ghost use Rattle.lab_defs_game.specs.Nodes as nodes;
 ghost use Rattle.lab_defs_game.specs.Sets.{public_list};
 ghost use Rattle.lab_world.specs.Games.{game_model};
 ghost use Rattle.lab_unfold.specs.Values.{unfolded};
-ghost use Rattle.lab_tree.specs.Behind.{history_at};
+ghost use Rattle.lab_unfold.specs.Parents.{history_at};
 ghost use Rattle.lab_tree.specs.NodeValues.{parent_node, end_among, keys_in, HasList};
 ghost use Rattle.lab_tree.specs.Trees.{node_id};
 

@@ -1,10 +1,8 @@
 //! The nodes of a game.
 
-ghost use Rattle.std.specs.Prelude.{◌≡◌, ◌<◌, [], true, length, slice_index_or, IfOk};
-ghost use Rattle.lab_defs_game.specs.Histories as model;
+ghost use Rattle.std.specs.Prelude.{◌≡◌, ◌<◌, [], length, slice_index_or, IfOk};
 ghost use Rattle.lab_world.specs.Games.{game_model};
 ghost use Rattle.lab_unfold.specs.Values.{unfolded};
-ghost use Rattle.lab_seen.specs.Firsts.{AreFirsts, one_node};
 ghost use Rattle.lab_tree.specs.NodeValues.{nodes_in};
 ghost use Rattle.lab_tree.specs.Trees.{node_id};
 
@@ -40,17 +38,12 @@ impl Model for Nodes {
 }
 
 impl Nodes {
-    /// The nodes of a game, given for each history the number of the first one with the same public list.
-    pub fn build(
-        alloc: Global,
-        game: &Game,
-        histories: &Histories,
-        firsts: &[u32],
-    ) -> Result<Nodes, AllocError>
-        requires unfolded { histories.now ≡ unfolded (game_model game.now) }
-        requires firsts { AreFirsts (λ h. true) (one_node (game_model game.now)) histories.now.histories firsts.now }
+    /// The nodes of a game.
+    pub fn build(alloc: Global, game: &Game, histories: &Histories) -> Result<Nodes, AllocError>
+        requires { histories.now ≡ unfolded (game_model game.now) }
         ensures { IfOk result (λ n. n ≡ nodes_in (game_model game.now)) }
     {
+        let firsts = histories.node_firsts();
         let order = sorted(alloc, node_keys(alloc, game, histories, firsts)?)?;
         let ranks = ranks(alloc, order.as_slice(), histories.count())?;
         let of = node_ids(alloc, firsts, ranks.as_slice())?;

@@ -4,12 +4,10 @@ ghost use Rattle.std.specs.Prelude.{◌≡◌, ◌⊎◌, ◌≤◌, None, lengt
 ghost use Rattle.lab_defs_game.specs.Histories as model;
 ghost use Rattle.lab_defs_game.specs.Laws.{AlikeNames};
 ghost use Rattle.lab_defs_game.specs.Nodes as nodes;
-ghost use Rattle.lab_defs_game.specs.Recall.{one_set};
 ghost use Rattle.lab_defs_game.specs.Sets.{sets};
 ghost use Rattle.lab_defs_game.specs.Unfolding.{unfold_fault};
 ghost use Rattle.lab_world.specs.Games.{game_model};
 ghost use Rattle.lab_unfold.specs.Values.{unfolded};
-ghost use Rattle.lab_seen.specs.Firsts.{AreFirsts, is_inner};
 ghost use Rattle.lab_tree.specs.Trees.{node_id, set_at, set_in};
 
 use super::first_sets::set_keys;
@@ -28,25 +26,24 @@ pub struct NumberedSets {
     pub of: Vec<Option<SetId>>,
 }
 
-/// Those of a game, given for each history that is not terminal the number of the first one of its set.
+/// Those of a game.
 pub fn numbered_sets(
     alloc: Global,
     game: &Game,
     histories: &Histories,
     seat: u32,
-    firsts: &[u32],
     node_of: &[NodeId],
 ) -> Result<NumberedSets, AllocError>
     requires unfolded { histories.now ≡ unfolded (game_model game.now) }
     requires accepted { unfold_fault (game_model game.now) ≡ None }
     requires alike { AlikeNames (game_model game.now) seat }
     requires seat { (seat ≡ 1) ⊎ (seat ≡ 2) }
-    requires firsts { AreFirsts (is_inner (game_model game.now)) (one_set (game_model game.now) seat) histories.now.histories firsts.now }
     requires nodes { node_of.now ≡ map (λ h. node_id (nodes.node_of (game_model game.now) h)) (model.histories (game_model game.now)) }
     ensures sets { IfOk result (λ n. n.sets.items ≡ map (set_in (game_model game.now) seat) (sets (game_model game.now) seat)) }
     ensures of { IfOk result (λ n. n.of.items ≡ map (set_at (game_model game.now) seat) (model.histories (game_model game.now))) }
     ensures few { IfOk result (λ n. length n.sets.items ≤ 65536) }
 {
+    let firsts = histories.set_firsts(seat);
     let order = sorted(alloc, set_keys(alloc, game, histories, seat, firsts)?)?;
     let ranks = ranks(alloc, order.as_slice(), histories.count())?;
     let of = set_ids(alloc, game, histories, firsts, ranks.as_slice())?;

@@ -18,7 +18,6 @@ ghost use Rattle.std.specs.Prelude.{
   IfOk,
 };
 ghost use Rattle.std.specs.Int.RustNames.{unsigned_abs};
-ghost use Rattle.lab_defs_text.specs.Texts.{place_at, is_world};
 ghost use Rattle.lab_defs_game.specs.Keys.{number_of};
 ghost use Rattle.lab_defs_game.specs.Histories as model;
 ghost use Rattle.lab_defs_game.specs.Chance.{chance};
@@ -31,7 +30,6 @@ ghost use Rattle.lab_tree.specs.Ends.{end_in};
 ghost use Rattle.lab_defs_game.specs.Nodes.{ends_by_nodes};
 
 use super::end::End;
-use super::ends::end_payoff;
 use crate::{RowId, RowInfo};
 use lab_form::SetId;
 use lab_unfold::{Histories, HistoryId, Step};
@@ -138,10 +136,7 @@ fn worth(game: &Game, items: &Histories, id: HistoryId) -> Worth
         ≡ pos (chance (game_model game.now) (slice_index_or (model.histories (game_model game.now)) id.0 []))
         *ℤ model.payoff (game_model game.now) (slice_index_or (model.histories (game_model game.now)) id.0 []) }
 {
-    let Some(payoff) = end_payoff(game, items.item(id).world) else {
-        unreachable!();
-    };
-    product(items.chance(id), payoff)
+    product(items.chance(id), items.payoff(id))
 }
 
 // A chance times a payoff.

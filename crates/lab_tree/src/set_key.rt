@@ -4,9 +4,9 @@ ghost use Rattle.std.specs.Prelude.{◌≡◌, map};
 ghost use Rattle.std.specs.Cmp.Lexicographic.{slice_cmp};
 ghost use Rattle.lab_defs_game.specs.Keys.{list_cmp};
 ghost use Rattle.lab_defs_game.specs.Sets.{publics, item_cmp, set_cmp};
-ghost use Rattle.lab_seen.specs.Items.{item_model};
+ghost use Rattle.lab_unfold.specs.Items.{item_model};
 
-use lab_seen::Item;
+use lab_unfold::Item;
 use std::cmp::Ordering;
 use std::marker::Model;
 
@@ -19,7 +19,7 @@ pub struct SetKey {
 impl Model for SetKey {
     ghost use Rattle.std.specs.Prelude.{List, map};
     ghost use Rattle.lab_defs_game.specs.Sets as model;
-    ghost use Rattle.lab_seen.specs.Items.{item_model};
+    ghost use Rattle.lab_unfold.specs.Items.{item_model};
 
     ghost Value = { List model.Item };
 

@@ -2,12 +2,10 @@
 
 ghost use Rattle.std.specs.Prelude.{◌≡◌, ◌⊎◌, ◌<◌, ◌≤◌, ◌+◌, [], None, Some, length, slice_index, slice_index_or, slice_range, IfOk};
 ghost use Rattle.std.specs.Option.{IsSome};
-ghost use Rattle.lab_defs_game.specs.Laws.{AlikeNames};
-ghost use Rattle.lab_defs_game.specs.Recall.{one_set};
+ghost use Rattle.lab_defs_game.specs.Recall.{recall_fault};
 ghost use Rattle.lab_defs_game.specs.Unfolding.{unfold_fault};
 ghost use Rattle.lab_world.specs.Games.{game_model};
 ghost use Rattle.lab_unfold.specs.Values.{unfolded};
-ghost use Rattle.lab_seen.specs.Firsts.{AreFirsts, is_inner};
 ghost use Rattle.lab_tree.specs.Decisions.{set_decisions};
 ghost use Rattle.lab_tree.specs.NodeValues.{nodes_in};
 ghost use Rattle.lab_tree.specs.SetValues.{sets_in, AreBounds};
@@ -46,20 +44,18 @@ impl Model for SeatSets {
 }
 
 impl SeatSets {
-    /// The sets of a seat, 1 or 2, given for each history that is not terminal the number of the first one of its set.
+    /// The sets of a seat, 1 or 2.
     pub fn build(
         alloc: Global,
         game: &Game,
         histories: &Histories,
         seat: u32,
-        firsts: &[u32],
         nodes: &Nodes,
     ) -> Result<SeatSets, AllocError>
         requires unfolded { histories.now ≡ unfolded (game_model game.now) }
         requires accepted { unfold_fault (game_model game.now) ≡ None }
-        requires alike { AlikeNames (game_model game.now) seat }
+        requires recall { recall_fault (game_model game.now) ≡ None }
         requires seat { (seat ≡ 1) ⊎ (seat ≡ 2) }
-        requires firsts { AreFirsts (is_inner (game_model game.now)) (one_set (game_model game.now) seat) histories.now.histories firsts.now }
         requires nodes { nodes.now ≡ nodes_in (game_model game.now) }
         ensures { IfOk result (λ s. s ≡ sets_in (game_model game.now) seat) }
     {
@@ -68,7 +64,6 @@ impl SeatSets {
             game,
             histories,
             seat,
-            firsts,
             nodes.all_of(),
         )?;
         let decisions = decision_counts(alloc, sets.as_slice())?;

@@ -6,7 +6,6 @@ ghost use Rattle.lab_defs_game.specs.Recall.{recall_fault};
 ghost use Rattle.lab_defs_game.specs.Unfolding.{unfold_fault};
 ghost use Rattle.lab_world.specs.Games.{game_model};
 ghost use Rattle.lab_unfold.specs.Values.{unfolded};
-ghost use Rattle.lab_seen.specs.SetFirsts.{AreSetFirsts};
 ghost use Rattle.lab_tree.specs.TreeForms.{tree_form};
 ghost use Rattle.lab_tree.specs.TreeParts.{parts_in, AreSeatParts, IsSeatValue};
 ghost use Rattle.lab_tree.specs.Trees.{node_id, seat_of, tree_of};
@@ -15,11 +14,9 @@ use super::forms::form_of;
 use super::nodes::Nodes;
 use super::paths::SeatPaths;
 use super::rows::Rows;
-use super::seats::{nodes_of, sets_of};
 use super::sets::SeatSets;
 use crate::{NodeId, PathWalk, RowInfo, SetInfo};
 use lab_form::{Form, SetId, Span};
-use lab_seen::{SetFirsts, set_firsts};
 use lab_unfold::{Histories, HistoryId};
 use lab_world::Game;
 use std::alloc::{AllocError, Global};
@@ -64,23 +61,17 @@ struct Parts {
     rows: Rows,
 }
 
-// Those of a game, by the first histories of its sets.
-fn made_parts(
-    alloc: Global,
-    game: &Game,
-    histories: &Histories,
-    firsts: &SetFirsts,
-) -> Result<Parts, AllocError>
+// Those of a game.
+fn made_parts(alloc: Global, game: &Game, histories: &Histories) -> Result<Parts, AllocError>
     requires unfolded { histories.now ≡ unfolded (game_model game.now) }
     requires accepted { unfold_fault (game_model game.now) ≡ None }
     requires recall { recall_fault (game_model game.now) ≡ None }
-    requires firsts { AreSetFirsts (game_model game.now) firsts.now }
     ensures { IfOk result (λ p. record { unfolded = histories.now; nodes = p.nodes; one = p.one; two = p.two; paths1 = p.paths1; paths2 = p.paths2; node_rows = p.rows }
         ≡ parts_in (game_model game.now)) }
 {
-    let nodes = nodes_of(alloc, game, histories)?;
-    let one = sets_of(alloc, game, histories, 1, firsts.one.as_slice(), &nodes)?;
-    let two = sets_of(alloc, game, histories, 2, firsts.two.as_slice(), &nodes)?;
+    let nodes = Nodes::build(alloc, game, histories)?;
+    let one = SeatSets::build(alloc, game, histories, 1, &nodes)?;
+    let two = SeatSets::build(alloc, game, histories, 2, &nodes)?;
     let paths1 = SeatPaths::build(alloc, &one, nodes.parents())?;
     let paths2 = SeatPaths::build(alloc, &two, nodes.parents())?;
     let rows = Rows::build(
@@ -110,25 +101,6 @@ impl Tree {
         requires recall { recall_fault (game_model game.now) ≡ None }
         ensures { IfOk result (λ t. t ≡ tree_of (game_model game.now)) }
     {
-        match set_firsts(alloc, game, &histories) {
-            Ok(firsts) => Tree::build_with(alloc, game, histories, &firsts),
-            Err(AllocError) => Err(NoMemory),
-        }
-    }
-
-    /// Likewise where the first histories of the sets are known.
-    pub fn build_with(
-        alloc: Global,
-        game: &Game,
-        histories: Histories,
-        firsts: &SetFirsts,
-    ) -> Result<Tree, NoMemory>
-        requires unfolded { histories ≡ unfolded (game_model game.now) }
-        requires accepted { unfold_fault (game_model game.now) ≡ None }
-        requires recall { recall_fault (game_model game.now) ≡ None }
-        requires firsts { AreSetFirsts (game_model game.now) firsts.now }
-        ensures { IfOk result (λ t. t ≡ tree_of (game_model game.now)) }
-    {
         let Ok(
             Parts {
                 nodes,
@@ -138,7 +110,7 @@ impl Tree {
                 paths2,
                 rows,
             },
-        ) = made_parts(alloc, game, &histories, firsts)
+        ) = made_parts(alloc, game, &histories)
         else {
             return Err(NoMemory);
         };

@@ -1,8 +1,9 @@
 use Rattle.std.proofs.Common.{◌++◌, ◌∙◌, ap, reverse, arith}
 use Rattle.lab_defs_game.specs.Sets.{public_list}
 use Rattle.lab_world.specs.Games.{game_model}
-use Rattle.lab_seen.specs.Items.{item_model}
-use Rattle.lab_tree.specs.Behind.{IsBehind, history_at}
+use Rattle.lab_unfold.specs.Items.{item_model}
+use Rattle.lab_unfold.specs.Parents.{history_at}
+use Rattle.lab_tree.specs.Behind.{IsBehind}
 use Rattle.lab_tree.proofs.BehindLemmas.{public_behind, token_back}
 use Rattle.lab_tree.proofs.behind.public_along.Goals as goal
 

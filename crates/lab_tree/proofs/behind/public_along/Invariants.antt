@@ -1,7 +1,7 @@
 use Rattle.std.proofs.Common.{◌≡◌, ◌<◌, ◌++◌, reverse, length}
 use Rattle.lab_defs_game.specs.Sets.{public_list}
 use Rattle.lab_world.specs.Games.{game_model}
-use Rattle.lab_tree.specs.Behind.{history_at}
+use Rattle.lab_unfold.specs.Parents.{history_at}
 use Rattle.lab_tree.proofs.behind.public_along.Given as goal
 
 abbrev pub invariant-loop-before : goal.invariant-loop-before

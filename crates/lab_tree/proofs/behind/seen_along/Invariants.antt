@@ -1,8 +1,8 @@
 use Rattle.std.proofs.Common.{◌≡◌, ◌<◌, ◌++◌, reverse, length, map}
 use Rattle.lab_defs_game.specs.Sets.{seen}
 use Rattle.lab_world.specs.Games.{game_model}
-use Rattle.lab_seen.specs.Items.{item_model}
-use Rattle.lab_tree.specs.Behind.{history_at}
+use Rattle.lab_unfold.specs.Items.{item_model}
+use Rattle.lab_unfold.specs.Parents.{history_at}
 use Rattle.lab_tree.proofs.behind.seen_along.Given as goal
 
 abbrev pub invariant-loop-before : goal.invariant-loop-before

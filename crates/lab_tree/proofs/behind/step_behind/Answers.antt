@@ -2,8 +2,8 @@ use Rattle.std.proofs.Common.{◌≡◌, ap, ◌∙◌, subst, [], get_or}
 use Rattle.std.specs.Option.{option_map}
 use Rattle.lab_defs_game.specs.Sets.{seen}
 use Rattle.lab_world.specs.Games.{game_model}
-use Rattle.lab_seen.proofs.StepItems.{here, read_root}
-use Rattle.lab_seen.specs.Items.{item_model, last_item}
+use Rattle.lab_unfold.proofs.CallerLemmas.{here, read_root}
+use Rattle.lab_unfold.specs.Items.{item_model, last_item}
 use Rattle.lab_tree.proofs.BehindLemmas.{behind_is, behind_sees}
 use Rattle.lab_tree.proofs.behind.step_behind.Goals as goal
 

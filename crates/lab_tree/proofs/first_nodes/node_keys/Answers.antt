@@ -1,11 +1,11 @@
 use Rattle.std.proofs.Common.{◌≡◌, ◌∙◌, ap, sym, append-nil, [], ◌∷◌, ◌++◌, length, get_or, true, false, arith}
 use Rattle.std.proofs.lemmas.Bool.{eq-eqb, ne_eqb}
-use Rattle.lab_tree.specs.Behind.{history_at}
+use Rattle.lab_unfold.proofs.CallerLemmas.{all_length}
+use Rattle.lab_unfold.specs.Parents.{history_at}
 use Rattle.lab_defs_game.specs.Histories as model
 use Rattle.lab_defs_game.specs.Sets.{public_list}
 use Rattle.lab_world.specs.Games.{game_model}
 use Rattle.lab_unfold.specs.Values.{Unfolded}
-use Rattle.lab_unfold.proofs.ParentLemmas.{all_length}
 use Rattle.lab_tree.specs.Keyed.{keyed}
 use Rattle.lab_tree.proofs.ClassLemmas.{keyed_more}
 use Rattle.lab_tree.proofs.first_nodes.node_keys.Goals as goal

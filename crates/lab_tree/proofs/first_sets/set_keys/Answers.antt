@@ -3,9 +3,9 @@ use Rattle.lab_defs_game.specs.Histories as model
 use Rattle.lab_defs_game.specs.Sets.{seen}
 use Rattle.lab_world.specs.Games.{game_model}
 use Rattle.lab_unfold.specs.Values.{Unfolded}
-use Rattle.lab_unfold.proofs.ParentLemmas.{all_length}
-use Rattle.lab_seen.specs.Firsts.{is_inner}
-use Rattle.lab_tree.specs.Behind.{history_at}
+use Rattle.lab_unfold.proofs.CallerLemmas.{all_length}
+use Rattle.lab_unfold.specs.Parents.{history_at}
+use Rattle.lab_unfold.specs.Firsts.{is_inner}
 use Rattle.lab_tree.specs.Keyed.{keyed}
 use Rattle.lab_tree.proofs.ClassLemmas.{keyed_more}
 use Rattle.lab_tree.proofs.first_sets.set_keys.Goals as goal

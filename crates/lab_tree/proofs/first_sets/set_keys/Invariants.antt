@@ -2,7 +2,7 @@ use Rattle.std.proofs.Common.{◌≡◌}
 use Rattle.lab_defs_game.specs.Histories.{histories}
 use Rattle.lab_defs_game.specs.Sets.{seen}
 use Rattle.lab_world.specs.Games.{game_model}
-use Rattle.lab_seen.specs.Firsts.{is_inner}
+use Rattle.lab_unfold.specs.Firsts.{is_inner}
 use Rattle.lab_tree.specs.Keyed.{keyed}
 use Rattle.lab_tree.proofs.first_sets.set_keys.Given as goal
 

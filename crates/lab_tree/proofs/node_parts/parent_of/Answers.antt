@@ -4,8 +4,9 @@ use Rattle.lab_defs_game.specs.Histories as model
 use Rattle.lab_defs_game.specs.Nodes as nodes
 use Rattle.lab_defs_game.specs.Sets.{public_list}
 use Rattle.lab_world.specs.Games.{game_model}
-use Rattle.lab_seen.specs.Items.{item_model}
-use Rattle.lab_tree.specs.Behind.{IsBehind, history_at}
+use Rattle.lab_unfold.specs.Items.{item_model}
+use Rattle.lab_unfold.specs.Parents.{history_at}
+use Rattle.lab_tree.specs.Behind.{IsBehind}
 use Rattle.lab_tree.specs.NodeValues.{parent_node}
 use Rattle.lab_tree.specs.Trees.{node_id}
 use Rattle.lab_tree.specs.declared.info.NodeId.{NodeId}

@@ -1,7 +1,7 @@
 use Rattle.std.proofs.Common.{◌∙◌, sym}
 use Rattle.std.specs.Cmp.Derive.Mapped.{lex_map}
 use Rattle.lab_defs_game.specs.Sets.{item_cmp}
-use Rattle.lab_seen.specs.Items.{item_model}
+use Rattle.lab_unfold.specs.Items.{item_model}
 use Rattle.lab_tree.proofs.set_key.compare_items.Goals as goal
 
 pub returns : goal.returns

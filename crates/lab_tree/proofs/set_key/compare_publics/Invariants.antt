@@ -1,7 +1,7 @@
 use Rattle.std.proofs.Common.{◌≡◌, drop, map}
 use Rattle.lab_defs_game.specs.Keys.{list_cmp}
 use Rattle.lab_defs_game.specs.Sets.{publics}
-use Rattle.lab_seen.specs.Items.{item_model}
+use Rattle.lab_unfold.specs.Items.{item_model}
 use Rattle.lab_tree.proofs.set_key.compare_publics.Given as goal
 
 abbrev pub invariant-loop-i : goal.invariant-loop-i

@@ -2,7 +2,7 @@ use Rattle.std.proofs.Common.{◌<◌, arith}
 use Rattle.lab_defs_game.specs.Histories as model
 use Rattle.std.proofs.Common.{length}
 use Rattle.lab_world.specs.Games.{game_model}
-use Rattle.lab_seen.specs.Items.{item_model}
+use Rattle.lab_unfold.specs.Items.{item_model}
 use Rattle.lab_tree.specs.Behind.{IsBehind}
 use Rattle.lab_tree.proofs.SetLemmas.{parent_is}
 use Rattle.lab_tree.proofs.set_parts.parent_set.Goals as goal

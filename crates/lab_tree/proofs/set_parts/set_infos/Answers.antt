@@ -2,7 +2,7 @@ use Rattle.std.proofs.Common.{◌≡◌, ◌<◌, ◌∙◌, List, [], ℕ, leng
 use Rattle.std.proofs.lemmas.List.{length-map}
 use Rattle.lab_defs_game.specs.Sets.{Item, seen, sets}
 use Rattle.lab_world.specs.Games.{game_model}
-use Rattle.lab_tree.specs.Behind.{history_at}
+use Rattle.lab_unfold.specs.Parents.{history_at}
 use Rattle.lab_tree.specs.SetValues.{set_with}
 use Rattle.lab_tree.proofs.NodeLemmas.{key_at}
 use Rattle.lab_tree.proofs.SetLemmas.{sets_more, weights_more, weights_few}

@@ -7,15 +7,15 @@ use Rattle.lab_tree.specs.SetValues.{SetsValue, sets_in}
 use Rattle.lab_tree.proofs.PartLemmas.{have_paths}
 use Rattle.lab_tree.proofs.tree.made_parts.Goals as goal
 
-pub build-requires : goal.build-requires
-build-requires c =
+pub build-requires-4 : goal.build-requires-4
+build-requires-4 c =
     let g = game_model c.args.game.now in
     let parents = c.parents.ensures ∙ ap (λ (v : NodesValue). v.parents) c.in_ok-nodes.ensures in
     subst (λ (s : SetsValue). HavePaths s.sets s.starts c.parents.result.now) (sym c.in_ok-one.ensures)
     (subst (λ (ps : List (Option NodeId)). HavePaths (sets_in g 1).sets (sets_in g 1).starts ps) (sym parents) (have_paths g 1 c.requires.accepted))
 
-pub build-requires-2 : goal.build-requires-2
-build-requires-2 c =
+pub build-requires-5 : goal.build-requires-5
+build-requires-5 c =
     let g = game_model c.args.game.now in
     let parents = c.parents-2.ensures ∙ ap (λ (v : NodesValue). v.parents) c.in_ok-nodes.ensures in
     subst (λ (s : SetsValue). HavePaths s.sets s.starts c.parents-2.result.now) (sym c.in_ok-two.ensures)

@@ -3,7 +3,7 @@ use Rattle.std.specs.List.{All, range_with_len}
 use Rattle.std.proofs.lemmas.List.{length-map}
 use Rattle.lab_defs_game.specs.Nodes as nodes
 use Rattle.lab_form.specs.Forms.{AreSets}
-use Rattle.lab_unfold.proofs.WorldLemmas.{whole_parts}
+use Rattle.lab_world.proofs.CallerLemmas.{whole_parts}
 use Rattle.lab_world.specs.Games.{game_model}
 use Rattle.lab_tree.specs.declared.info.SetInfo.{SetInfo}
 use Rattle.lab_tree.specs.Decisions.{set_decisions}
@@ -11,14 +11,18 @@ use Rattle.lab_tree.specs.NodeValues.{NodesValue, node_end}
 use Rattle.lab_tree.specs.SetValues.{starts_of, span_at, AreRising}
 use Rattle.lab_tree.specs.TreeForms.{form_sets}
 use Rattle.lab_tree.proofs.FormLaws.{sets_stand}
+use Rattle.lab_tree.proofs.PartLemmas.{alike_names}
 use Rattle.lab_tree.proofs.SpanLemmas.{infos, starts, starts_long, infos_rise, ends_below, made_bounds, made_value}
 use Rattle.lab_tree.proofs.sets.SeatSets.build.Goals as goal
+
+pub numbered_sets-requires-clause-alike : goal.numbered_sets-requires-clause-alike
+numbered_sets-requires-clause-alike c = alike_names (game_model c.args.game.now) c.args.seat c.requires.recall c.requires.seat
 
 pub decision_counts-requires-clause-sets : goal.decision_counts-requires-clause-sets
 decision_counts-requires-clause-sets c =
     let g = game_model c.args.game.now in
     let made : c.as_slice.result.now ≡ infos g c.args.seat = c.as_slice.ensures.value ∙ c.in_ok-sets.ensures.sets in
-    subst (λ (xs : List SetInfo). AreSets (form_sets xs)) (sym made) (sets_stand g c.args.seat c.requires.seat c.requires.alike (whole_parts c.args.game.now).0)
+    subst (λ (xs : List SetInfo). AreSets (form_sets xs)) (sym made) (sets_stand g c.args.seat c.requires.seat (alike_names g c.args.seat c.requires.recall c.requires.seat) (whole_parts c.args.game.now).0)
 
 pub starts-requires-clause-rising : goal.starts-requires-clause-rising
 starts-requires-clause-rising c =

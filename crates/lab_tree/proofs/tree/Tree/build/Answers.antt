@@ -1,10 +1,10 @@
 use Rattle.std.proofs.Common.{ap, ◌∙◌, sym, subst}
 use Rattle.lab_world.specs.Games.{game_model}
-use Rattle.lab_unfold.proofs.WorldLemmas.{whole_parts}
+use Rattle.lab_world.proofs.CallerLemmas.{whole_parts}
 use Rattle.lab_defs_game.specs.Accepted.{IsAccepted}
 use Rattle.lab_tree.specs.TreeParts.{PartsValue, AreParts, tree_with}
 use Rattle.lab_tree.proofs.PartLemmas.{parts_are, tree_is}
-use Rattle.lab_tree.proofs.tree.Tree.build_with.Goals as goal
+use Rattle.lab_tree.proofs.tree.Tree.build.Goals as goal
 
 pub invariant_of-result : goal.invariant_of-result
 invariant_of-result c =
