@@ -13,7 +13,7 @@ use super::memory::check_memory;
 use super::names::check_names;
 use crate::RecallFault;
 use lab_unfold::Histories;
-use lab_world::{Game, Recall};
+use lab_world::{Game, Recall, Seat};
 use std::alloc::Global;
 
 /// Checks that at the histories of each information set the actions have the same names, seat 1's sets first. Where what a seat has
@@ -23,8 +23,8 @@ pub fn check_sets(alloc: Global, game: &Game, histories: &Histories) -> Result<(
     ensures none { OnOk result (recall_fault (game_model game.now) ≡ None) }
     ensures fault { IfErr result (λ e. IsFault (game_model game.now) e) }
 {
-    check_names(game, histories, 1)?;
-    check_names(game, histories, 2)?;
+    check_names(game, histories, Seat::One)?;
+    check_names(game, histories, Seat::Two)?;
     check_memories(alloc, game, histories)?;
     Ok(())
 }
@@ -38,6 +38,6 @@ fn check_memories(alloc: Global, game: &Game, histories: &Histories) -> Result<(
     if game.recall == Recall::Acts {
         return Ok(());
     }
-    check_memory(alloc, game, histories, 1)?;
-    check_memory(alloc, game, histories, 2)
+    check_memory(alloc, game, histories, Seat::One)?;
+    check_memory(alloc, game, histories, Seat::Two)
 }

@@ -1,36 +1,37 @@
 //! Whether what a seat sees tells its own actions.
 
-ghost use Rattle.std.specs.Prelude.{◌≡◌, ◌⊎◌, ◌<◌, ℕ, false, length, IfSome, IfNone, OnOk, IfErr};
+ghost use Rattle.std.specs.Prelude.{◌≡◌, ◌<◌, ℕ, false, length, IfSome, IfNone, OnOk, IfErr};
 ghost use Rattle.lab_defs_text.specs.Games.{by_seen};
 ghost use Rattle.lab_defs_game.specs.Laws.{Remembers};
 ghost use Rattle.lab_world.specs.Games.{game_model};
+ghost use Rattle.lab_world.specs.Seats.{seat_number};
 ghost use Rattle.lab_unfold.specs.Values.{unfolded};
 ghost use Rattle.lab_recall.specs.Tests.{forgets_at, IsFirstAt};
 ghost use Rattle.lab_recall.specs.Faults.{IsMemoryFault};
 
 use crate::RecallFault;
 use lab_unfold::{Histories, HistoryId, first_of_tokens};
-use lab_world::Game;
+use lab_world::{Game, Seat};
 use std::alloc::Global;
 
-/// Checks that the tokens that a seat, 1 or 2, has seen tell its own actions.
+/// Checks that the tokens that a seat has seen tell its own actions.
 pub fn check_memory(
     alloc: Global,
     game: &Game,
     histories: &Histories,
-    seat: u32,
+    seat: Seat,
 ) -> Result<(), RecallFault>
     requires unfolded { histories.now ≡ unfolded (game_model game.now) }
-    requires seat { (seat ≡ 1) ⊎ (seat ≡ 2) }
-    ensures none { OnOk result (Remembers (game_model game.now) seat) }
-    ensures fault { IfErr result (λ e. IsMemoryFault (game_model game.now) seat e) }
+    ensures none { OnOk result (Remembers (game_model game.now) (seat_number seat)) }
+    ensures fault { IfErr result (λ e. IsMemoryFault (game_model game.now) (seat_number seat) e) }
 {
-    let firsts = first_of_tokens(alloc, game, histories, seat)?;
+    let number = seat.number();
+    let firsts = first_of_tokens(alloc, game, histories, number)?;
     let tokens = firsts.as_slice();
-    let sets = histories.set_firsts(seat);
+    let sets = histories.set_firsts(number);
     match first_forgotten(game, histories, sets, tokens) {
         Some(second) => Err(RecallFault::Forgotten {
-            seat,
+            seat: number,
             first: HistoryId(tokens[second as usize]),
             second: HistoryId(second),
         }),

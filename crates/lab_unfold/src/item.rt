@@ -8,11 +8,12 @@ ghost use Rattle.lab_defs_game.specs.Laws.{IsStep};
 ghost use Rattle.lab_defs_game.specs.Sets.{seen};
 ghost use Rattle.lab_world.specs.Games.{game_model};
 ghost use Rattle.lab_world.specs.Models.{outcome_model};
+ghost use Rattle.lab_world.specs.Seats.{seat_number};
 ghost use Rattle.lab_unfold.specs.Values.{unfolded, history_in, step_model};
 ghost use Rattle.lab_unfold.specs.Items.{item_model, last_item};
 
 use crate::{Histories, History, HistoryId, Step};
-use lab_world::{Game, Outcome, WorldId};
+use lab_world::{Game, Outcome, Seat, WorldId};
 
 /// The place of the seat's own action, its private token and the public token. Items go by these in this order.
 #[derive(Clone, Copy, Debug, PartialEq, Eq, PartialOrd, Ord)]
@@ -30,16 +31,15 @@ pub fn last_seen(game: &Game, histories: &Histories, seat: u32, id: HistoryId) -
     ensures { option_map item_model result
         ≡ last_item (seen (game_model game.now) seat (slice_index_or histories.now.histories id.0 [])) }
 {
-    last_among(game, histories.items(), seat, id)
+    last_among(game, histories.items(), Seat::of(seat), id)
 }
 
 /// Likewise, by the histories alone.
-pub fn last_among(game: &Game, items: &[History], seat: u32, id: HistoryId) -> Option<Item>
+pub fn last_among(game: &Game, items: &[History], seat: Seat, id: HistoryId) -> Option<Item>
     requires items { items.now ≡ map (history_in (game_model game.now)) (model.histories (game_model game.now)) }
-    requires seat { (seat ≡ 1) ⊎ (seat ≡ 2) }
     requires there { id.0 < length items.now }
     ensures { option_map item_model result
-        ≡ last_item (seen (game_model game.now) seat (slice_index_or (model.histories (game_model game.now)) id.0 [])) }
+        ≡ last_item (seen (game_model game.now) (seat_number seat) (slice_index_or (model.histories (game_model game.now)) id.0 [])) }
 {
     let history = items[id.0 as usize];
     let (Some(parent), Some(step)) = (history.parent, history.step) else {
@@ -63,16 +63,14 @@ fn outcome_at(game: &Game, id: WorldId, step: Step) -> Outcome
 }
 
 // What a seat sees of a step with this outcome.
-fn item_with(outcome: Outcome, step: Step, seat: u32) -> Item
-    requires seat { (seat ≡ 1) ⊎ (seat ≡ 2) }
-    ensures action { result.action ≡ (if seat == 1 then step.place1 else step.place2) }
-    ensures own { result.own ≡ (if seat == 1 then outcome.own1.0 else outcome.own2.0) }
+fn item_with(outcome: Outcome, step: Step, seat: Seat) -> Item
+    ensures action { result.action ≡ (if seat_number seat == 1 then step.place1 else step.place2) }
+    ensures own { result.own ≡ (if seat_number seat == 1 then outcome.own1.0 else outcome.own2.0) }
     ensures public { result.public ≡ outcome.public.0 }
 {
-    let (action, own) = if seat == 1 {
-        (step.place1, outcome.own1)
-    } else {
-        (step.place2, outcome.own2)
+    let (action, own) = match seat {
+        Seat::One => (step.place1, outcome.own1),
+        Seat::Two => (step.place2, outcome.own2),
     };
     Item {
         action,

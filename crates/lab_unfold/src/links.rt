@@ -1,9 +1,10 @@
 //! The links of histories.
 
-ghost use Rattle.std.specs.Prelude.{◌≡◌, ◌⊎◌, ◌<◌, ◌≤◌, [], map, length, slice_index_or, IfOk};
+ghost use Rattle.std.specs.Prelude.{◌≡◌, ◌<◌, ◌≤◌, [], map, length, slice_index_or, IfOk};
 ghost use Rattle.lab_defs_text.specs.Texts.{place_at};
 ghost use Rattle.lab_defs_game.specs.Histories.{histories};
 ghost use Rattle.lab_world.specs.Games.{game_model};
+ghost use Rattle.lab_world.specs.Seats.{seat_number};
 ghost use Rattle.lab_unfold.specs.Values.{history_in};
 ghost use Rattle.lab_unfold.specs.Traces.{counted_at, kept_of, traces};
 ghost use Rattle.lab_unfold.specs.Links.{IsMade, IsGrown};
@@ -11,7 +12,7 @@ ghost use Rattle.lab_unfold.specs.Links.{IsMade, IsGrown};
 use super::item::last_among;
 use super::link::{Kept, Link};
 use crate::{History, HistoryId, Item};
-use lab_world::{Game, WorldId};
+use lab_world::{Game, Seat, WorldId};
 use std::alloc::{AllocError, Global};
 
 /// The link of each history, where what is kept of it goes on from an earlier one.
@@ -19,13 +20,12 @@ pub fn links(
     alloc: Global,
     game: &Game,
     items: &[History],
-    seat: u32,
+    seat: Seat,
     kept: Kept,
 ) -> Result<Vec<Option<Link>>, AllocError>
     requires items { items.now ≡ map (history_in (game_model game.now)) (histories (game_model game.now)) }
     requires few { length items.now ≤ 65536 }
-    requires seat { (seat ≡ 1) ⊎ (seat ≡ 2) }
-    ensures grown { IfOk result (λ v. IsGrown (traces (game_model game.now) seat kept) v.items) }
+    ensures grown { IfOk result (λ v. IsGrown (traces (game_model game.now) (seat_number seat) kept) v.items) }
     ensures few { IfOk result (λ v. length v.items ≤ 65536) }
 {
     let mut links = Vec::with_capacity(alloc, items.len())?;
@@ -36,11 +36,10 @@ pub fn links(
 }
 
 // The link of one history.
-fn link(game: &Game, items: &[History], seat: u32, kept: Kept, id: HistoryId) -> Option<Link>
+fn link(game: &Game, items: &[History], seat: Seat, kept: Kept, id: HistoryId) -> Option<Link>
     requires items { items.now ≡ map (history_in (game_model game.now)) (histories (game_model game.now)) }
-    requires seat { (seat ≡ 1) ⊎ (seat ≡ 2) }
     requires there { id.0 < length items.now }
-    ensures { IsMade (traces (game_model game.now) seat kept) id.0 result }
+    ensures { IsMade (traces (game_model game.now) (seat_number seat) kept) id.0 result }
 {
     let history = items[id.0 as usize];
     if !counts(game, history.world, kept) {

@@ -29,7 +29,7 @@ use super::payoffs::top_payoff;
 use super::units::scale;
 use crate::{History, Scale, UnfoldFault};
 use lab_units::pow_within;
-use lab_world::Game;
+use lab_world::{Game, Seat};
 use std::alloc::Global;
 
 // The greatest size: 2^64.
@@ -43,10 +43,10 @@ pub fn scale_within(alloc: Global, game: &Game, items: &[History]) -> Result<Sca
     ensures fault { IfErr result (λ e.
         IfSome (fault_in e) (λ f. size_fault (game_model game.now) ≡ Some f)) }
 {
-    let Ok(most1) = most_decisions(alloc, game, items, 1) else {
+    let Ok(most1) = most_decisions(alloc, game, items, Seat::One) else {
         return Err(UnfoldFault::Memory);
     };
-    let Ok(most2) = most_decisions(alloc, game, items, 2) else {
+    let Ok(most2) = most_decisions(alloc, game, items, Seat::Two) else {
         return Err(UnfoldFault::Memory);
     };
     let top = top_payoff(game, items);

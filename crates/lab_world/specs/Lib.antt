@@ -6,3 +6,4 @@ pub mod Drafts
 pub mod Stages
 pub mod Made
 pub mod Filled
+pub mod Seats

@@ -16,8 +16,10 @@ mod placed;
 mod reads;
 mod rooted;
 mod row_numbers;
+mod seat;
 mod stages;
 
 pub use game::Game;
 pub use parts::{AssembleFault, PartOutcome, PartPlace, PartRow, Parts};
 pub use place::{ActionId, Outcome, Place, Recall, Row, TokenId, World, WorldId};
+pub use seat::Seat;

@@ -5,6 +5,7 @@ use Rattle.lab_defs_game.specs.Laws.{IsStep}
 use Rattle.lab_defs_game.specs.Sets.{seen}
 use Rattle.lab_defs_game.proofs.Legal.{step_from}
 use Rattle.lab_world.specs.Games.{game_model}
+use Rattle.lab_world.specs.Seats.{seat_number}
 use Rattle.lab_unfold.specs.declared.history.History.{History}
 use Rattle.lab_unfold.specs.declared.history.Step.{Step}
 use Rattle.lab_unfold.specs.Items.{last_item}
@@ -26,7 +27,7 @@ returns-in_default c =
 pub returns-in_default-2 : goal.returns-in_default-2
 returns-in_default-2 c =
     let g = game_model c.args.game.now in
-    sym (ap (λ h. last_item (seen g c.args.seat h)) (read_first g c.args.id.0 c.args.items.now _ c.requires.items c.requires.there c.in_default.is-0))
+    sym (ap (λ h. last_item (seen g (seat_number c.args.seat) h)) (read_first g c.args.id.0 c.args.items.now _ c.requires.items c.requires.there c.in_default.is-0))
 
 pub bounds-items-parent : goal.bounds-items-parent
 bounds-items-parent c =
@@ -52,5 +53,5 @@ returns c =
     let world = read_is g c.in-Some-Some.parent.0 c.args.items.now _ c.requires.items (omega (arith, there, b.below)) in
     let step = step_same c.in-Some-Some.step b.step
     (sym c.in-Some-Some.is-1 ∙ read_step g c.args.id.0 c.in-Some-Some.parent.0 c.args.items.now _ b c.requires.items c.requires.there) in
-    last_is g c.args.seat c.args.id.0 c.in-Some-Some.parent.0 _ c.in-Some-Some.step c.outcome_at-outcome.result c.item_with.result world b step
+    last_is g (seat_number c.args.seat) c.args.id.0 c.in-Some-Some.parent.0 _ c.in-Some-Some.step c.outcome_at-outcome.result c.item_with.result world b step
     c.item_with.ensures.action c.item_with.ensures.own c.item_with.ensures.public c.outcome_at-outcome.ensures
