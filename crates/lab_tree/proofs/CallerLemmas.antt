@@ -1,5 +1,5 @@
 -- What callers of the tree of a game may know.
-use Rattle.std.proofs.Common.{◌≡◌, ℕ, ◌<◌, List, [], Bool, true, false, cond, length, map, Option, Some, None, refl, sym, subst}
+use Rattle.std.proofs.Common.{◌≡◌, ℕ, ◌<◌, [], Bool, true, false, cond, length, map, Option, Some, None, refl, sym, subst}
 use Rattle.std.specs.Prelude.{◌==◌, not, slice_index_or}
 use Rattle.std.specs.Option.{IsSome}
 use Rattle.std.proofs.lemmas.List.{get_or-map}

@@ -1,4 +1,4 @@
-use Rattle.std.proofs.Common.{◌≡◌, ℕ, ◌<◌, length, cond, true, sym, ap, ◌∙◌, subst, Option, Some, None}
+use Rattle.std.proofs.Common.{◌≡◌, ℕ, ◌<◌, length, cond, true, sym, ap, ◌∙◌, Option, Some, None}
 use Rattle.std.specs.Prelude.{not}
 use Rattle.lab_defs_game.specs.Histories.{histories, is_terminal}
 use Rattle.lab_defs_game.specs.Nodes.{node_of}

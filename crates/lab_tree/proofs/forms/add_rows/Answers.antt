@@ -1,6 +1,5 @@
-use Rattle.std.proofs.Common.{get_or, ap, sym, subst, ◌∙◌}
+use Rattle.std.proofs.Common.{get_or, sym, subst, ◌∙◌}
 use Rattle.std.specs.Prelude.{slice_index}
-use Rattle.lab_form.specs.declared.items.FormRow.{FormRow}
 use Rattle.lab_form.specs.Forms.{FormValue, IsNextRow}
 use Rattle.lab_tree.specs.TreeForms.{form_row, last_set}
 use Rattle.lab_tree.proofs.TreeFormLemmas.{no_row, row_next, last_counted, counted_is, rows_more}
