@@ -1,5 +1,5 @@
 -- The columns of a seat with one more set.
-use Rattle.std.proofs.Common.{◌≡◌, ℕ, suc, ◌<◌, ◌≤◌, List, [], ◌∷◌, ◌++◌, take, length, get_or, refl, sym, ap, ◌∙◌, subst, arith}
+use Rattle.std.proofs.Common.{◌≡◌, ℕ, suc, ◌<◌, ◌≤◌, List, [], ◌∷◌, ◌++◌, take, length, get_or, sym, ap, ◌∙◌, subst, arith}
 use Rattle.std.proofs.lemmas.List.{length-append, length-take-le}
 use Rattle.lab_form.specs.declared.items.FormSet.{FormSet}
 use Rattle.lab_form.specs.Forms.{IsNextSet, AreSets}

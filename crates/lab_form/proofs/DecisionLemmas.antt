@@ -2,9 +2,8 @@
 use Rattle.std.proofs.Common.{◌≡◌, ℕ, zero, suc, ◌+◌, ◌%◌, ◌^◌, ◌<◌, ◌≤◌, ◌⊎◌, inl, inr, Bool, true, false, cond, List, [], ◌∷◌, ◌++◌, map, take, drop, length, get_or, Option, Some, None, refl, sym, ap, ◌∙◌, subst, arith}
 use Rattle.std.specs.Prelude.{nat_le}
 use Rattle.std.specs.List.{filter}
-use Rattle.std.specs.Option.{option_map}
 use Rattle.std.proofs.lemmas.Bool.{cases_lt, le-leb, lt-leb}
-use Rattle.std.proofs.lemmas.List.{get_or-map, get_or_append_left, get_or_push, get_or-take, length-append, length-map, length-take-le, map-append, take-map, take-append-drop, take-append-le, take_at, drop_more, append-nil}
+use Rattle.std.proofs.lemmas.List.{get_or-map, get_or_append_left, get_or_push, get_or-take, length-append, length-take-le, map-append, take-map, take-append-drop, take-append-le, take_at, drop_more, append-nil}
 use Rattle.std.proofs.lemmas.List.Elements.{filter-append}
 use Rattle.lab_math.proofs.NaturalSums.{sum_over-append}
 use Rattle.lab_math.specs.Sums.{sum_over}
@@ -15,7 +14,7 @@ use Rattle.lab_defs_value.specs.Tables.{weights_of, first_weight}
 use Rattle.lab_form.specs.declared.items.SetId.{SetId}
 use Rattle.lab_form.specs.declared.items.FormSet.{FormSet}
 use Rattle.lab_form.specs.declared.items.FormRow.{FormRow}
-use Rattle.lab_form.specs.Forms.{actions_in, weight_count, taken_model, sets_model, whole_path, last_of, IsStepBelow, IsNextSet, AreSets, IsNextRow, AreRows}
+use Rattle.lab_form.specs.Forms.{actions_in, weight_count, taken_model, sets_model, whole_path, last_of, IsStepBelow, IsNextSet, AreSets, AreRows}
 use Rattle.lab_form.specs.Decisions.{last_deciding, weight_number, last_decision, short_decision, decisions_above, row_decisions}
 use Rattle.lab_form.proofs.PathLemmas.{chain_step, model_length, model_parent, parents_below}
 use Rattle.lab_form.proofs.ChainLemmas.{map_same_at}

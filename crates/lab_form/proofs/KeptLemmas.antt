@@ -1,12 +1,12 @@
 -- What a form keeps, with one more set or row.
-use Rattle.std.proofs.Common.{◌≡◌, ℕ, suc, ◌<◌, ◌≤◌, ◌⊎◌, inl, inr, Option, Some, None, List, [], ◌∷◌, ◌++◌, cond, map, length, get_or, refl, sym, ap, ◌∙◌, subst, arith}
+use Rattle.std.proofs.Common.{◌≡◌, ℕ, suc, ◌<◌, ◌≤◌, ◌⊎◌, inl, inr, Option, Some, None, List, [], ◌∷◌, ◌++◌, cond, length, get_or, sym, ap, ◌∙◌, subst, arith}
 use Rattle.std.proofs.lemmas.Bool.{cases_lt, ne_eqb}
 use Rattle.std.proofs.lemmas.List.{length-append, get_or_append_left, get_or_push, length-map, map-append}
 use Rattle.lab_form.specs.declared.items.SetId.{SetId}
 use Rattle.lab_form.specs.declared.items.FormSet.{FormSet}
 use Rattle.lab_form.specs.declared.items.FormRow.{FormRow}
 use Rattle.lab_form.specs.Forms.{FormValue, sets_of, actions_in, last_of, IsStepBelow, IsNextSet, IsNextRow, AreRows}
-use Rattle.lab_form.specs.Decisions.{short_decision, row_decisions}
+use Rattle.lab_form.specs.Decisions.{short_decision}
 use Rattle.lab_form.specs.Columns.{SeatValue, seat_with_set, seat_with_row, with_place, AreChains, form_in, AreKept}
 use Rattle.lab_form.proofs.ChainLemmas.{step_placed, chains_item, chains_place}
 use Rattle.lab_form.proofs.DecisionLemmas.{sets_more, rows_same1, rows_same2}

@@ -1,4 +1,4 @@
-use Rattle.std.proofs.Common.{◌≡◌, ℕ, get_or, None, sym, ap, ◌∙◌, subst}
+use Rattle.std.proofs.Common.{get_or, None, sym, ap, ◌∙◌, subst}
 use Rattle.lab_form.specs.declared.items.FormSet.{FormSet}
 use Rattle.lab_form.specs.Forms.{IsStepBelow}
 use Rattle.lab_form.specs.Decisions.{short_decision}

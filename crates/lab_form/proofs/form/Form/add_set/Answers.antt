@@ -1,5 +1,5 @@
-use Rattle.std.proofs.Common.{◌≡◌, ◌<◌, ◌≤◌, length, ℕ, sym, ap, ◌∙◌, subst, arith}
-use Rattle.lab_form.specs.Forms.{FormValue, sets_of, IsNextSet}
+use Rattle.std.proofs.Common.{◌<◌, length, sym, subst}
+use Rattle.lab_form.specs.Forms.{FormValue, IsNextSet}
 use Rattle.lab_form.specs.Columns.{SeatValue, form_in, AreKept}
 use Rattle.lab_form.proofs.KeptLemmas.{sets_one, sets_two, kept_set1, kept_set2}
 use Rattle.lab_form.proofs.form.Form.add_set.Goals as goal

@@ -1,4 +1,4 @@
-use Rattle.std.proofs.Common.{rules, ◌≡◌, length, ℕ, ◌<◌, sym, ap, ◌∙◌, subst}
+use Rattle.std.proofs.Common.{rules, length, ◌<◌, sym, ap, ◌∙◌, subst}
 use Rattle.std.proofs.lemmas.List.{length-map}
 use Rattle.lab_form.specs.Columns.{ChainsValue, with_number, chained}
 use Rattle.lab_form.proofs.ChainLemmas.{added_value}
