@@ -1,13 +1,13 @@
-pub mod Collecting
-pub mod CountLemmas
-pub mod FaultLemmas
-pub mod FoundLemmas
-pub mod LineCuts
-pub mod PieceLemmas
-pub mod PlainLemmas
-pub mod RefusalLemmas
-pub mod ReplyLemmas
-pub mod RunLemmas
-pub mod SplitLemmas
-pub mod Splitting
-pub mod WriteLemmas
+mod Collecting
+mod CountLemmas
+mod FaultLemmas
+mod FoundLemmas
+mod LineCuts
+mod PieceLemmas
+mod PlainLemmas
+mod RefusalLemmas
+mod ReplyLemmas
+mod RunLemmas
+mod SplitLemmas
+mod Splitting
+mod WriteLemmas

@@ -1,7 +1,7 @@
 pub mod CallerLemmas
-pub mod PathLemmas
-pub mod NumberLemmas
-pub mod ChainLemmas
-pub mod DecisionLemmas
-pub mod ColumnLemmas
-pub mod KeptLemmas
+mod PathLemmas
+mod NumberLemmas
+mod ChainLemmas
+mod DecisionLemmas
+mod ColumnLemmas
+mod KeptLemmas

@@ -1,5 +1,5 @@
-pub mod Positions
-pub mod ClippedDigits
-pub mod EmptyPlaces
-pub mod WholeAnswers
+mod Positions
+mod ClippedDigits
+mod EmptyPlaces
+mod WholeAnswers
 pub mod CallerLemmas

@@ -1,3 +1,3 @@
-pub mod FirstPairs
-pub mod FaultLemmas
-pub mod NameLemmas
+mod FirstPairs
+mod FaultLemmas
+mod NameLemmas

@@ -1,12 +1,12 @@
-pub mod FitLemmas
-pub mod LineLemmas
-pub mod WordLemmas
-pub mod NumberLemmas
-pub mod NameSteps
-pub mod PlaceSteps
-pub mod FaultSteps
-pub mod TakeSteps
-pub mod LoopSteps
-pub mod GameSteps
-pub mod SizeSteps
-pub mod FirstPlaces
+mod FitLemmas
+mod LineLemmas
+mod WordLemmas
+mod NumberLemmas
+mod NameSteps
+mod PlaceSteps
+mod FaultSteps
+mod TakeSteps
+mod LoopSteps
+mod GameSteps
+mod SizeSteps
+mod FirstPlaces

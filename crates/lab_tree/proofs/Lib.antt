@@ -1,29 +1,29 @@
-pub mod ActionLemmas
-pub mod Begins
-pub mod BehindLemmas
+mod ActionLemmas
+mod Begins
+mod BehindLemmas
 pub mod CallerLemmas
-pub mod ClassLemmas
-pub mod NodeLemmas
-pub mod NodesMade
-pub mod PartLemmas
-pub mod PublicOrder
-pub mod RankLemmas
-pub mod SetLemmas
-pub mod SetsMade
-pub mod SpanLemmas
-pub mod StartLemmas
-pub mod Reading
-pub mod Grouping
-pub mod Parts
-pub mod EndLemmas
-pub mod RowLemmas
-pub mod TreeFormLemmas
-pub mod FormLaws
-pub mod WayLemmas
-pub mod KinLemmas
-pub mod WayLaws
-pub mod SetLaws
-pub mod GroupLaws
-pub mod WaySets
-pub mod ItemLaws
-pub mod PathLaws
+mod ClassLemmas
+mod NodeLemmas
+mod NodesMade
+mod PartLemmas
+mod PublicOrder
+mod RankLemmas
+mod SetLemmas
+mod SetsMade
+mod SpanLemmas
+mod StartLemmas
+mod Reading
+mod Grouping
+mod Parts
+mod EndLemmas
+mod RowLemmas
+mod TreeFormLemmas
+mod FormLaws
+mod WayLemmas
+mod KinLemmas
+mod WayLaws
+mod SetLaws
+mod GroupLaws
+mod WaySets
+mod ItemLaws
+mod PathLaws

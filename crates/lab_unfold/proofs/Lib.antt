@@ -1,16 +1,16 @@
-pub mod ChildLemmas
-pub mod LevelLemmas
-pub mod ParentLemmas
-pub mod PayoffLemmas
-pub mod UnitLemmas
-pub mod SizeLemmas
-pub mod ChanceLemmas
-pub mod BirthLemmas
-pub mod FaultLemmas
-pub mod StepLemmas
-pub mod StepItems
-pub mod TraceLemmas
-pub mod ListLemmas
-pub mod KeyedLemmas
-pub mod AlikeLemmas
+mod ChildLemmas
+mod LevelLemmas
+mod ParentLemmas
+mod PayoffLemmas
+mod UnitLemmas
+mod SizeLemmas
+mod ChanceLemmas
+mod BirthLemmas
+mod FaultLemmas
+mod StepLemmas
+mod StepItems
+mod TraceLemmas
+mod ListLemmas
+mod KeyedLemmas
+mod AlikeLemmas
 pub mod CallerLemmas

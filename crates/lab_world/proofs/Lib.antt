@@ -1,12 +1,12 @@
-pub mod ActionNameLemmas
+mod ActionNameLemmas
 pub mod CallerLemmas
-pub mod EachLemmas
-pub mod FilledLemmas
-pub mod MadeLemmas
-pub mod OrderLemmas
-pub mod PartLemmas
-pub mod PlaceLemmas
-pub mod RowLemmas
-pub mod RunLemmas
-pub mod SearchLemmas
-pub mod SizeLemmas
+mod EachLemmas
+mod FilledLemmas
+mod MadeLemmas
+mod OrderLemmas
+mod PartLemmas
+mod PlaceLemmas
+mod RowLemmas
+mod RunLemmas
+mod SearchLemmas
+mod SizeLemmas
