@@ -17,10 +17,7 @@ use Rattle.lab_defs_game.proofs.RecallLemmas.{not_both, names_same, names_itself
 use Rattle.lab_defs_game.proofs.Spans.{eq_is}
 use Rattle.lab_unfold.specs.Values.{history_number, Unfolded, unfolded}
 use Rattle.lab_unfold.specs.Firsts.{AreFirsts, IsFirstAkin, is_inner, same_tokens}
-use Rattle.lab_unfold.proofs.CallerLemmas.{all_length, ascending, first_akin, one_set_from, read_set_firsts}
-use Rattle.lab_world.specs.declared.seat.Seat.{Seat}
-use Rattle.lab_world.specs.declared.seat.Seat.TheVariants.{One, Two}
-use Rattle.lab_world.specs.Seats.{seat_number}
+use Rattle.lab_unfold.proofs.CallerLemmas.{all_length, ascending, first_akin, one_set_from}
 use Rattle.lab_recall.specs.Tests.{history, differs_at, forgets_at, IsFirstAt}
 
 -- ---- first histories
@@ -42,15 +39,6 @@ numbered g h i = (history_number g h, number_below history_cmp history_total (hi
 -- there are as many items as histories
 pub items_length : (g : GameModel) (u : Unfolded) → u ≡ unfolded g → length u.items ≡ length (histories g)
 items_length g u e = all_length g u.items (ap (λ (u : Unfolded). u.items) e)
-
--- the first histories of the sets of a seat, as they are read by its number
-pub seat_firsts : (g : GameModel) (s : Seat) (u : Unfolded) (n : ℕ) (firsts : List ℕ) → n ≡ seat_number s → u ≡ unfolded g → firsts ≡ (if n == 1 then u.set_firsts1 else u.set_firsts2)
-    → AreFirsts (is_inner g) (one_set g (seat_number s)) (histories g) firsts
-seat_firsts g s u n firsts e f r = read_set_firsts g (seat_number s) u firsts (either s) f (r ∙ ap (λ n. cond (n == 1) u.set_firsts1 u.set_firsts2) e)
-  where
-    either : (s : Seat) → (seat_number s ≡ 1) ⊎ (seat_number s ≡ 2)
-    either One = inl refl
-    either Two = inr refl
 
 -- ---- sets
 

@@ -1,5 +1,5 @@
 -- The information sets of a seat, as they are made from the first histories of them.
-use Rattle.std.proofs.Common.{◌≡◌, ℕ, ◌<◌, ◌≤◌, List, [], true, cond, Bool, false, length, get_or, map, ◌&&◌, Option, Some, None, refl, sym, ap, ◌∙◌, arith, ◌⊎◌}
+use Rattle.std.proofs.Common.{◌≡◌, ℕ, ◌<◌, ◌≤◌, List, [], true, cond, Bool, false, length, get_or, map, ◌&&◌, Option, Some, None, refl, sym, ap, ◌∙◌, arith}
 use Rattle.std.specs.Prelude.{◌==◌, if◌then◌else◌}
 use Rattle.std.specs.List.{All, range_with_len}
 use Rattle.std.specs.Ordering.{is_eq}
@@ -14,9 +14,10 @@ use Rattle.lab_defs_game.specs.Sets.{Item, seen, set_cmp, sets, set_number}
 use Rattle.lab_defs_game.proofs.KeyLemmas.{length_merged}
 use Rattle.lab_defs_game.proofs.Orders.{set_total, set_exact}
 use Rattle.lab_form.specs.declared.items.SetId.{SetId}
+use Rattle.lab_world.specs.declared.seat.Seat.{Seat}
+use Rattle.lab_world.specs.Seats.{seat_number}
 use Rattle.lab_unfold.specs.Firsts.{AreFirsts, is_inner}
 use Rattle.lab_unfold.specs.Values.{Unfolded, unfolded}
-use Rattle.lab_unfold.proofs.CallerLemmas.{read_set_firsts}
 use Rattle.lab_unfold.specs.Parents.{history_at}
 use Rattle.lab_tree.specs.Keyed.{keyed}
 use Rattle.lab_tree.specs.NodeValues.{keys_in, pair_cmp}
@@ -25,6 +26,7 @@ use Rattle.lab_tree.specs.SetValues.{HasSeen, ranked_set}
 use Rattle.lab_tree.specs.Trees.{set_id, set_at}
 use Rattle.lab_tree.proofs.ClassLemmas.{AreFirstByKey, stands, keys_are, apart, within, rank_is}
 use Rattle.lab_tree.proofs.NodesMade.{keyed_few}
+use Rattle.lab_unfold.proofs.CallerLemmas.{seat_firsts}
 
 -- what was made so far: the first history of each set, with what is seen along it, in order
 pub record SetsMade (g : GameModel) (seat : ℕ) (firsts : List ℕ) (order : List (List Item × ℕ)) : Type 0 where
@@ -32,10 +34,11 @@ pub record SetsMade (g : GameModel) (seat : ℕ) (firsts : List ℕ) (order : Li
   pub order_is : order ≡ in_order (pair_cmp set_cmp) (keyed (is_inner g) (seen g seat) (histories g) firsts (length (histories g)))
 
 -- from what the functions say
-pub made : (g : GameModel) (seat : ℕ) (u : Unfolded) (firsts : List ℕ) (keys order : List (List Item × ℕ)) → (seat ≡ 1) ⊎ (seat ≡ 2) → u ≡ unfolded g
-    → firsts ≡ (if seat == 1 then u.set_firsts1 else u.set_firsts2) → keys ≡ keyed (is_inner g) (seen g seat) (histories g) firsts (length (histories g)) → order ≡ in_order (pair_cmp set_cmp) keys → SetsMade g seat firsts order
-made g seat u firsts keys order s e f k o = record {
-  firsts_are = read_set_firsts g seat u firsts s e f;
+pub made : (g : GameModel) (s : Seat) (u : Unfolded) (n : ℕ) (firsts : List ℕ) (keys order : List (List Item × ℕ)) → n ≡ seat_number s → u ≡ unfolded g
+    → firsts ≡ (if n == 1 then u.set_firsts1 else u.set_firsts2) → keys ≡ keyed (is_inner g) (seen g (seat_number s)) (histories g) firsts (length (histories g)) → order ≡ in_order (pair_cmp set_cmp) keys
+    → SetsMade g (seat_number s) firsts order
+made g s u n firsts keys order named e f k o = record {
+  firsts_are = seat_firsts g s u n firsts named e f;
   order_is = o ∙ ap (in_order (pair_cmp set_cmp)) k;
 }
 

@@ -1,9 +1,10 @@
 //! What is seen along the first histories of information sets.
 
-ghost use Rattle.std.specs.Prelude.{◌≡◌, ◌⊎◌, ◌<◌, length, IfOk};
+ghost use Rattle.std.specs.Prelude.{◌≡◌, ◌<◌, length, IfOk};
 ghost use Rattle.lab_defs_game.specs.Histories as model;
 ghost use Rattle.lab_defs_game.specs.Sets.{seen};
 ghost use Rattle.lab_world.specs.Games.{game_model};
+ghost use Rattle.lab_world.specs.Seats.{seat_number};
 ghost use Rattle.lab_unfold.specs.Values.{unfolded};
 ghost use Rattle.lab_unfold.specs.Firsts.{is_inner};
 ghost use Rattle.lab_tree.specs.Keyed as keys;
@@ -12,7 +13,7 @@ use super::behind::seen_along;
 use super::inner::leads_on;
 use super::set_key::SetKey;
 use lab_unfold::{Histories, HistoryId};
-use lab_world::Game;
+use lab_world::{Game, Seat};
 use std::alloc::{AllocError, Global};
 
 /// What a seat has seen along each history that is the first of its information set, and the number of the history.
@@ -20,13 +21,12 @@ pub fn set_keys(
     alloc: Global,
     game: &Game,
     histories: &Histories,
-    seat: u32,
+    seat: Seat,
     firsts: &[u32],
 ) -> Result<Vec<(SetKey, u32)>, AllocError>
     requires unfolded { histories.now ≡ unfolded (game_model game.now) }
-    requires seat { (seat ≡ 1) ⊎ (seat ≡ 2) }
     requires count { length firsts.now ≡ length (model.histories (game_model game.now)) }
-    ensures { IfOk result (λ v. v.items ≡ keys.keyed (is_inner (game_model game.now)) (seen (game_model game.now) seat)
+    ensures { IfOk result (λ v. v.items ≡ keys.keyed (is_inner (game_model game.now)) (seen (game_model game.now) (seat_number seat))
         (model.histories (game_model game.now)) firsts.now (length (model.histories (game_model game.now)))) }
 {
     let mut keys = Vec::new(alloc);

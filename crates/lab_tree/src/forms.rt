@@ -1,15 +1,17 @@
 //! The form of a tree.
 
-ghost use Rattle.std.specs.Prelude.{◌≡◌, ◌⊎◌, ◌<◌, ◌≤◌, ◌^◌, [], map, length, slice_index, IfOk};
+ghost use Rattle.std.specs.Prelude.{◌≡◌, ◌<◌, ◌≤◌, ◌^◌, [], map, length, slice_index, IfOk};
 ghost use Rattle.std.specs.List.{range_with_len};
 ghost use Rattle.lab_defs_game.specs.Forms.{decisions_to};
 ghost use Rattle.lab_form.specs.Forms.{sets_of, sets_model, AreSets, AreRows};
+ghost use Rattle.lab_world.specs.Seats.{seat_number};
 ghost use Rattle.lab_tree.specs.Decisions.{counted_row};
 ghost use Rattle.lab_tree.specs.TreeForms.{form_sets, form_row, form_in, with_sets, with_rows, last_set, AreFormParts};
 
 use super::sets::SeatSets;
 use crate::{NoMemory, RowInfo, SetInfo};
 use lab_form::{Form, FormRow, FormSet};
+use lab_world::Seat;
 use std::alloc::Global;
 
 /// The form of the sets of each seat and of rows; a row lacks as many decisions as it has fewer than the most of the seat.
@@ -31,23 +33,22 @@ pub fn form_of(
         return Err(NoMemory);
     };
     let mut form = form;
-    add_sets(&mut form, 1, one.sets());
-    add_sets(&mut form, 2, two.sets());
+    add_sets(&mut form, Seat::One, one.sets());
+    add_sets(&mut form, Seat::Two, two.sets());
     add_rows(&mut form, rows, one.decisions(), two.decisions(), most);
     Ok(form)
 }
 
 // Adds the sets of a seat to a form that has none of it.
-fn add_sets(form: &mut Form, seat: u32, sets: &[SetInfo])
-    requires seat { (seat ≡ 1) ⊎ (seat ≡ 2) }
-    requires none { sets_of form.old seat ≡ [] }
+fn add_sets(form: &mut Form, seat: Seat, sets: &[SetInfo])
+    requires none { sets_of form.old (seat_number seat) ≡ [] }
     requires room { length sets.now ≤ form.old.set_room }
     requires sets { AreSets (form_sets sets.now) }
-    ensures { form.new ≡ with_sets form.old seat (form_sets sets.now) }
+    ensures { form.new ≡ with_sets form.old (seat_number seat) (form_sets sets.now) }
 {
     for set in sets {
         form.add_set(
-            seat,
+            seat.number(),
             FormSet {
                 parent: set.parent,
                 actions: set.actions,

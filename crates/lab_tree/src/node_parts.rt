@@ -29,7 +29,7 @@ use super::behind::step_behind;
 use super::node_key::NodeKey;
 use crate::NodeId;
 use lab_unfold::{Histories, HistoryId};
-use lab_world::Game;
+use lab_world::{Game, Seat};
 use std::alloc::{AllocError, Global};
 
 /// The node of each history, by the first one at it and that one's rank.
@@ -71,7 +71,7 @@ fn parent_of(game: &Game, histories: &Histories, of: &[NodeId], id: HistoryId) -
     requires of { of.now ≡ map (λ h. node_id (nodes.node_of (game_model game.now) h)) (model.histories (game_model game.now)) }
     ensures { result ≡ parent_node (game_model game.now) (public_list (game_model game.now) (history_at (game_model game.now) id.0)) }
 {
-    match step_behind(game, histories, 1, id) {
+    match step_behind(game, histories, Seat::One, id) {
         Some((before, _)) => Some(of[before.0 as usize]),
         None => None,
     }

@@ -24,6 +24,7 @@ ghost use Rattle.lab_defs_game.specs.Chance.{chance};
 ghost use Rattle.lab_defs_game.specs.Sets.{set_number, seen};
 ghost use Rattle.lab_defs_game.specs.Unfolding.{unfold_fault};
 ghost use Rattle.lab_world.specs.Games.{game_model};
+ghost use Rattle.lab_world.specs.Seats.{seat_number};
 ghost use Rattle.lab_unfold.specs.Values.{unfolded};
 ghost use Rattle.lab_tree.specs.Trees.{set_id, set_at, row_cmp, last_in, row_in};
 ghost use Rattle.lab_tree.specs.Ends.{end_in};
@@ -34,7 +35,7 @@ use crate::{RowId, RowInfo};
 use lab_form::SetId;
 use lab_unfold::{Histories, HistoryId, Step};
 use lab_units::Worth;
-use lab_world::Game;
+use lab_world::{Game, Seat};
 use std::alloc::{AllocError, Global};
 
 /// The rows of a game, from its terminal histories by their nodes and the sets of each seat's histories.
@@ -85,26 +86,26 @@ fn row_info(
         history,
         worth: worth(game, items, history),
         last: [
-            last_set(game, items, history, 1, one),
-            last_set(game, items, history, 2, two),
+            last_set(game, items, history, Seat::One, one),
+            last_set(game, items, history, Seat::Two, two),
         ],
     }
 }
 
-// The last set of a seat, 1 or 2, on a terminal history, with the action there.
+// The last set of a seat on a terminal history, with the action there.
 fn last_set(
     game: &Game,
     items: &Histories,
     id: HistoryId,
-    seat: u32,
+    seat: Seat,
     sets: &[Option<SetId>],
 ) -> (SetId, u32)
     requires unfolded { items.now ≡ unfolded (game_model game.now) }
-    requires sets { sets.now ≡ map (set_at (game_model game.now) seat) (model.histories (game_model game.now)) }
+    requires sets { sets.now ≡ map (set_at (game_model game.now) (seat_number seat)) (model.histories (game_model game.now)) }
     requires there { id.0 < length items.now.items }
     requires terminal { model.is_terminal (game_model game.now) (slice_index_or (model.histories (game_model game.now)) id.0 []) ≡ true }
     ensures { result
-        ≡ last_in (game_model game.now) seat (slice_index_or (model.histories (game_model game.now)) id.0 []) }
+        ≡ last_in (game_model game.now) (seat_number seat) (slice_index_or (model.histories (game_model game.now)) id.0 []) }
 {
     let history = items.item(id);
     let Some(parent) = history.parent else {
@@ -120,10 +121,13 @@ fn last_set(
 }
 
 // The place of a seat's action in a step.
-fn action_of(seat: u32, step: Step) -> u32
-    ensures { result ≡ (if seat == 1 then step.place1 else step.place2) }
+fn action_of(seat: Seat, step: Step) -> u32
+    ensures { result ≡ (if seat_number seat == 1 then step.place1 else step.place2) }
 {
-    if seat == 1 { step.place1 } else { step.place2 }
+    match seat {
+        Seat::One => step.place1,
+        Seat::Two => step.place2,
+    }
 }
 
 // What a terminal history is worth: its chance times what it pays.

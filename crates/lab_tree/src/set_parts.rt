@@ -2,7 +2,6 @@
 
 ghost use Rattle.std.specs.Prelude.{
   ◌≡◌,
-  ◌⊎◌,
   ◌<◌,
   ◌≤◌,
   ◌+◌,
@@ -23,6 +22,7 @@ ghost use Rattle.lab_defs_game.specs.Unfolding.{unfold_fault};
 ghost use Rattle.lab_defs_value.specs.Tables.{weights_of};
 ghost use Rattle.lab_unfold.specs.Firsts.{is_inner};
 ghost use Rattle.lab_world.specs.Games.{game_model};
+ghost use Rattle.lab_world.specs.Seats.{seat_number};
 ghost use Rattle.lab_unfold.specs.Values.{unfolded};
 ghost use Rattle.lab_unfold.specs.Parents.{history_at};
 ghost use Rattle.lab_tree.specs.NodeValues.{keys_in};
@@ -35,7 +35,7 @@ use super::set_key::SetKey;
 use crate::{NodeId, SetInfo};
 use lab_form::SetId;
 use lab_unfold::{Histories, HistoryId};
-use lab_world::Game;
+use lab_world::{Game, Seat};
 use std::alloc::{AllocError, Global};
 
 /// The set of each history that is not terminal, by the first one of its set and that one's rank.
@@ -87,21 +87,20 @@ pub fn set_infos(
     alloc: Global,
     game: &Game,
     histories: &Histories,
-    seat: u32,
+    seat: Seat,
     order: &[(SetKey, u32)],
     of: &[Option<SetId>],
     node_of: &[NodeId],
 ) -> Result<Vec<SetInfo>, AllocError>
     requires unfolded { histories.now ≡ unfolded (game_model game.now) }
     requires accepted { unfold_fault (game_model game.now) ≡ None }
-    requires alike { AlikeNames (game_model game.now) seat }
-    requires seat { (seat ≡ 1) ⊎ (seat ≡ 2) }
-    requires order { keys_in order.now ≡ sets (game_model game.now) seat }
+    requires alike { AlikeNames (game_model game.now) (seat_number seat) }
+    requires order { keys_in order.now ≡ sets (game_model game.now) (seat_number seat) }
     requires few { length order.now ≤ 65536 }
-    requires seen { All (HasSeen (game_model game.now) seat) order.now }
-    requires of { of.now ≡ map (set_at (game_model game.now) seat) (model.histories (game_model game.now)) }
+    requires seen { All (HasSeen (game_model game.now) (seat_number seat)) order.now }
+    requires of { of.now ≡ map (set_at (game_model game.now) (seat_number seat)) (model.histories (game_model game.now)) }
     requires nodes { node_of.now ≡ map (λ h. node_id (nodes.node_of (game_model game.now) h)) (model.histories (game_model game.now)) }
-    ensures { IfOk result (λ v. v.items ≡ map (set_in (game_model game.now) seat) (sets (game_model game.now) seat)) }
+    ensures { IfOk result (λ v. v.items ≡ map (set_in (game_model game.now) (seat_number seat)) (sets (game_model game.now) (seat_number seat))) }
 {
     let mut infos = Vec::with_capacity(alloc, order.len())?;
     let mut weights = 0u64;
@@ -134,7 +133,7 @@ fn weights_among(actions: u32) -> u64
 fn set_info(
     game: &Game,
     histories: &Histories,
-    seat: u32,
+    seat: Seat,
     of: &[Option<SetId>],
     node_of: &[NodeId],
     id: HistoryId,
@@ -143,12 +142,11 @@ fn set_info(
 ) -> SetInfo
     requires unfolded { histories.now ≡ unfolded (game_model game.now) }
     requires accepted { unfold_fault (game_model game.now) ≡ None }
-    requires alike { AlikeNames (game_model game.now) seat }
-    requires seat { (seat ≡ 1) ⊎ (seat ≡ 2) }
-    requires seen { HasSeen (game_model game.now) seat (seen (game_model game.now) seat (history_at (game_model game.now) id.0), id.0) }
-    requires of { of.now ≡ map (set_at (game_model game.now) seat) (model.histories (game_model game.now)) }
+    requires alike { AlikeNames (game_model game.now) (seat_number seat) }
+    requires seen { HasSeen (game_model game.now) (seat_number seat) (seen (game_model game.now) (seat_number seat) (history_at (game_model game.now) id.0), id.0) }
+    requires of { of.now ≡ map (set_at (game_model game.now) (seat_number seat)) (model.histories (game_model game.now)) }
     requires nodes { node_of.now ≡ map (λ h. node_id (nodes.node_of (game_model game.now) h)) (model.histories (game_model game.now)) }
-    ensures value { result ≡ set_with (game_model game.now) seat (seen (game_model game.now) seat (history_at (game_model game.now) id.0)) number first_weight }
+    ensures value { result ≡ set_with (game_model game.now) (seat_number seat) (seen (game_model game.now) (seat_number seat) (history_at (game_model game.now) id.0)) number first_weight }
     ensures small { result.actions ≤ 65536 }
 {
     SetInfo {
@@ -164,16 +162,15 @@ fn set_info(
 fn parent_set(
     game: &Game,
     histories: &Histories,
-    seat: u32,
+    seat: Seat,
     of: &[Option<SetId>],
     id: HistoryId,
 ) -> Option<(SetId, u32)>
     requires unfolded { histories.now ≡ unfolded (game_model game.now) }
-    requires seat { (seat ≡ 1) ⊎ (seat ≡ 2) }
     requires there { id.0 < length (model.histories (game_model game.now)) }
-    requires of { of.now ≡ map (set_at (game_model game.now) seat) (model.histories (game_model game.now)) }
-    ensures { result ≡ option_map taken_in (parent (game_model game.now) seat
-        (seen (game_model game.now) seat (history_at (game_model game.now) id.0))) }
+    requires of { of.now ≡ map (set_at (game_model game.now) (seat_number seat)) (model.histories (game_model game.now)) }
+    ensures { result ≡ option_map taken_in (parent (game_model game.now) (seat_number seat)
+        (seen (game_model game.now) (seat_number seat) (history_at (game_model game.now) id.0))) }
 {
     let (before, item) = step_behind(game, histories, seat, id)?;
     match of[before.0 as usize] {

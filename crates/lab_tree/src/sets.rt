@@ -1,10 +1,11 @@
 //! The information sets of a seat, at nodes and inside subgames.
 
-ghost use Rattle.std.specs.Prelude.{◌≡◌, ◌⊎◌, ◌<◌, ◌≤◌, ◌+◌, [], None, Some, length, slice_index, slice_index_or, slice_range, IfOk};
+ghost use Rattle.std.specs.Prelude.{◌≡◌, ◌<◌, ◌≤◌, ◌+◌, [], None, Some, length, slice_index, slice_index_or, slice_range, IfOk};
 ghost use Rattle.std.specs.Option.{IsSome};
 ghost use Rattle.lab_defs_game.specs.Recall.{recall_fault};
 ghost use Rattle.lab_defs_game.specs.Unfolding.{unfold_fault};
 ghost use Rattle.lab_world.specs.Games.{game_model};
+ghost use Rattle.lab_world.specs.Seats.{seat_number};
 ghost use Rattle.lab_unfold.specs.Values.{unfolded};
 ghost use Rattle.lab_tree.specs.Decisions.{set_decisions};
 ghost use Rattle.lab_tree.specs.NodeValues.{nodes_in};
@@ -17,7 +18,7 @@ use super::set_starts::{spans, starts};
 use crate::{NodeId, SetInfo};
 use lab_form::{SetId, Span};
 use lab_unfold::{Histories, HistoryId};
-use lab_world::Game;
+use lab_world::{Game, Seat};
 use std::alloc::{AllocError, Global};
 use std::marker::Model;
 
@@ -44,20 +45,19 @@ impl Model for SeatSets {
 }
 
 impl SeatSets {
-    /// The sets of a seat, 1 or 2.
+    /// The sets of a seat.
     pub fn build(
         alloc: Global,
         game: &Game,
         histories: &Histories,
-        seat: u32,
+        seat: Seat,
         nodes: &Nodes,
     ) -> Result<SeatSets, AllocError>
         requires unfolded { histories.now ≡ unfolded (game_model game.now) }
         requires accepted { unfold_fault (game_model game.now) ≡ None }
         requires recall { recall_fault (game_model game.now) ≡ None }
-        requires seat { (seat ≡ 1) ⊎ (seat ≡ 2) }
         requires nodes { nodes.now ≡ nodes_in (game_model game.now) }
-        ensures { IfOk result (λ s. s ≡ sets_in (game_model game.now) seat) }
+        ensures { IfOk result (λ s. s ≡ sets_in (game_model game.now) (seat_number seat)) }
     {
         let NumberedSets { sets, of } = numbered_sets(
             alloc,

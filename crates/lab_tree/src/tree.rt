@@ -5,6 +5,7 @@ ghost use Rattle.std.specs.Option.{IsSome};
 ghost use Rattle.lab_defs_game.specs.Recall.{recall_fault};
 ghost use Rattle.lab_defs_game.specs.Unfolding.{unfold_fault};
 ghost use Rattle.lab_world.specs.Games.{game_model};
+ghost use Rattle.lab_world.specs.Seats.{seat_number};
 ghost use Rattle.lab_unfold.specs.Values.{unfolded};
 ghost use Rattle.lab_tree.specs.TreeForms.{tree_form};
 ghost use Rattle.lab_tree.specs.TreeParts.{parts_in, AreSeatParts, IsSeatValue};
@@ -18,7 +19,7 @@ use super::sets::SeatSets;
 use crate::{NodeId, PathWalk, RowInfo, SetInfo};
 use lab_form::{Form, SetId, Span};
 use lab_unfold::{Histories, HistoryId};
-use lab_world::Game;
+use lab_world::{Game, Seat};
 use std::alloc::{AllocError, Global};
 use std::marker::Model;
 
@@ -70,8 +71,8 @@ fn made_parts(alloc: Global, game: &Game, histories: &Histories) -> Result<Parts
         ≡ parts_in (game_model game.now)) }
 {
     let nodes = Nodes::build(alloc, game, histories)?;
-    let one = SeatSets::build(alloc, game, histories, 1, &nodes)?;
-    let two = SeatSets::build(alloc, game, histories, 2, &nodes)?;
+    let one = SeatSets::build(alloc, game, histories, Seat::One, &nodes)?;
+    let two = SeatSets::build(alloc, game, histories, Seat::Two, &nodes)?;
     let paths1 = SeatPaths::build(alloc, &one, nodes.parents())?;
     let paths2 = SeatPaths::build(alloc, &two, nodes.parents())?;
     let rows = Rows::build(
@@ -173,7 +174,7 @@ impl Tree {
         requires there { node.0 < length self.now.nodes }
         ensures { result.now ≡ slice_index_or (seat_of self.now seat).node_sets node.0 [] }
     {
-        self.seat(seat).node_sets(node)
+        self.seat(Seat::of(seat)).node_sets(node)
     }
 
     /// The terminal histories of a node.
@@ -190,7 +191,7 @@ impl Tree {
         requires there { node.0 < length self.now.nodes }
         ensures { result ≡ slice_index_or (seat_of self.now seat).spans node.0 (record { from = 0; to = 0 }) }
     {
-        self.seat(seat).span(node)
+        self.seat(Seat::of(seat)).span(node)
     }
 
     /// The set of a seat, 1 or 2, at a history that is not terminal.
@@ -200,7 +201,7 @@ impl Tree {
         requires some { IsSome (slice_index_or (seat_of self.now seat).set_of history.0 None) }
         ensures { slice_index_or (seat_of self.now seat).set_of history.0 None ≡ Some result }
     {
-        self.seat(seat).set_of(history)
+        self.seat(Seat::of(seat)).set_of(history)
     }
 
     /// The sets of a seat, 1 or 2, at each node from the root to this one, in their order, from either end.
@@ -209,10 +210,9 @@ impl Tree {
         requires there { node.0 < length self.now.nodes }
         ensures { result ≡ slice_index_or (seat_of self.now seat).paths node.0 [] }
     {
-        let (paths, sets) = if seat == 1 {
-            (&self.paths1, &self.one)
-        } else {
-            (&self.paths2, &self.two)
+        let (paths, sets) = match Seat::of(seat) {
+            Seat::One => (&self.paths1, &self.one),
+            Seat::Two => (&self.paths2, &self.two),
         };
         PathWalk::to(
             paths.items(),
@@ -238,11 +238,13 @@ impl Tree {
     }
 
     // The sets of a seat.
-    fn seat(&self, seat: u32) -> &SeatSets
-        requires { (seat ≡ 1) ⊎ (seat ≡ 2) }
-        ensures value { IsSeatValue (seat_of self.now seat) result.now }
+    fn seat(&self, seat: Seat) -> &SeatSets
+        ensures value { IsSeatValue (seat_of self.now (seat_number seat)) result.now }
         ensures parts { AreSeatParts (length self.now.unfolded.items) (length self.now.nodes) result.now }
     {
-        if seat == 1 { &self.one } else { &self.two }
+        match seat {
+            Seat::One => &self.one,
+            Seat::Two => &self.two,
+        }
     }
 }

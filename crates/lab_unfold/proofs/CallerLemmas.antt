@@ -21,6 +21,9 @@ use Rattle.lab_defs_game.proofs.NumberLemmas.{is_true_or}
 use Rattle.lab_defs_game.proofs.Orders.{set_total}
 use Rattle.lab_defs_game.proofs.PairLaws.{place_any, first_place}
 use Rattle.lab_defs_game.proofs.RecallLemmas.{not_both, same_list_from}
+use Rattle.lab_world.specs.declared.seat.Seat.{Seat}
+use Rattle.lab_world.specs.Seats.{seat_number}
+use Rattle.lab_world.proofs.CallerLemmas.{one_or_two}
 use Rattle.lab_unfold.specs.Firsts.{is_inner, one_node, IsFirstAkin, AreFirsts, node_first, set_first}
 use Rattle.lab_unfold.specs.Items.{last_item}
 use Rattle.lab_unfold.specs.Parents.{history_at, Behind}
@@ -193,13 +196,18 @@ set_firsts_are g seat =
     (λ h e. ap (λ b. cond b (place_of_first (λ k. one_set g seat k h) (histories g)) 0) e)
 
 -- as they are read of the histories of a game
-pub read_set_firsts : (g : GameModel) (seat : ℕ) (u : Unfolded) (firsts : List ℕ) → (seat ≡ 1) ⊎ (seat ≡ 2) → u ≡ unfolded g → firsts ≡ (if seat == 1 then u.set_firsts1 else u.set_firsts2)
+read_set_firsts : (g : GameModel) (seat : ℕ) (u : Unfolded) (firsts : List ℕ) → (seat ≡ 1) ⊎ (seat ≡ 2) → u ≡ unfolded g → firsts ≡ (if seat == 1 then u.set_firsts1 else u.set_firsts2)
     → AreFirsts (is_inner g) (one_set g seat) (histories g) firsts
 read_set_firsts g seat u firsts s e r = subst (AreFirsts (is_inner g) (one_set g seat) (histories g)) (sym (at s)) (set_firsts_are g seat)
   where
     at : (seat ≡ 1) ⊎ (seat ≡ 2) → firsts ≡ map (set_first g seat) (histories g)
     at (inl one) = r ∙ ap (λ n. cond (n == 1) u.set_firsts1 u.set_firsts2) one ∙ ap (λ (u : Unfolded). u.set_firsts1) e ∙ ap (λ n. map (set_first g n) (histories g)) (sym one)
     at (inr two) = r ∙ ap (λ n. cond (n == 1) u.set_firsts1 u.set_firsts2) two ∙ ap (λ (u : Unfolded). u.set_firsts2) e ∙ ap (λ n. map (set_first g n) (histories g)) (sym two)
+
+-- the first histories of the sets of a seat, as they are read by its number
+pub seat_firsts : (g : GameModel) (s : Seat) (u : Unfolded) (n : ℕ) (firsts : List ℕ) → n ≡ seat_number s → u ≡ unfolded g → firsts ≡ (if n == 1 then u.set_firsts1 else u.set_firsts2)
+    → AreFirsts (is_inner g) (one_set g (seat_number s)) (histories g) firsts
+seat_firsts g s u n firsts e f r = read_set_firsts g (seat_number s) u firsts (one_or_two s) f (r ∙ ap (λ n. cond (n == 1) u.set_firsts1 u.set_firsts2) e)
 
 -- the first history of the set of one that is not terminal is of that set, not after it, and not terminal either
 pub set_first_there : (g : GameModel) (seat i : ℕ) → i < length (histories g) → is_inner g (get_or (histories g) i []) ≡ true

@@ -1,5 +1,5 @@
 -- What holds of every game, for those that read it.
-use Rattle.std.proofs.Common.{◌≡◌, ◌<◌, ◌≤◌, true, List, [], ◌∷◌, length, arith}
+use Rattle.std.proofs.Common.{◌≡◌, ◌<◌, ◌≤◌, ◌⊎◌, true, List, [], ◌∷◌, length, refl, inl, inr, arith}
 use Rattle.std.specs.Prelude.{◌&&◌, nat_le}
 use Rattle.std.specs.List.{list_all}
 use Rattle.std.specs.Str.{bytes_eq}
@@ -10,6 +10,9 @@ use Rattle.lab_defs_text.specs.Texts.{game_ok, outcome_ok}
 use Rattle.lab_defs_text.proofs.GameLemmas.{game_fine, outcome_fine}
 use Rattle.lab_defs_game.specs.Chance.{row_total}
 use Rattle.lab_world.specs.declared.game.Game.{Game}
+use Rattle.lab_world.specs.declared.seat.Seat.{Seat}
+use Rattle.lab_world.specs.declared.seat.Seat.TheVariants.{One, Two}
+use Rattle.lab_world.specs.Seats.{seat_number}
 use Rattle.lab_world.specs.Wholes.{place_fits, all_action_names}
 use Rattle.lab_world.specs.Games.{game_model}
 
@@ -40,3 +43,8 @@ grid_some g = leb-true 1 g.grid (and_parts (nat_le 1 g.grid) (nat_le g.grid 4096
 -- the horizon is at least 1
 pub horizon_some : (g : Game) → 0 < g.horizon
 horizon_some g = leb-true 1 g.horizon (and_parts (nat_le 1 g.horizon) (nat_le g.horizon 32) (game_fine (game_model g) (whole_parts g).0).horizon).0
+
+-- the number of a seat is 1 or 2
+pub one_or_two : (s : Seat) → (seat_number s ≡ 1) ⊎ (seat_number s ≡ 2)
+one_or_two One = inl refl
+one_or_two Two = inr refl

@@ -5,7 +5,8 @@ use Rattle.lab_world.specs.Seats.{seat_number}
 use Rattle.lab_unfold.specs.Firsts.{AreFirsts, is_inner, same_tokens}
 use Rattle.lab_unfold.specs.Values.{Unfolded}
 use Rattle.lab_recall.specs.Tests.{forgets_at, IsFirstAt}
-use Rattle.lab_recall.proofs.FirstPairs.{items_length, seat_firsts, remembers, forgotten_pair}
+use Rattle.lab_unfold.proofs.CallerLemmas.{seat_firsts}
+use Rattle.lab_recall.proofs.FirstPairs.{items_length, remembers, forgotten_pair}
 use Rattle.lab_recall.proofs.memory.check_memory.Goals as goal
 
 pub first_forgotten-requires-clause-sets : goal.first_forgotten-requires-clause-sets

@@ -3,7 +3,8 @@ use Rattle.std.specs.Prelude.{slice_index}
 use Rattle.lab_world.specs.Games.{game_model}
 use Rattle.lab_world.specs.Seats.{seat_number}
 use Rattle.lab_recall.specs.Tests.{differs_at, IsFirstAt}
-use Rattle.lab_recall.proofs.FirstPairs.{items_length, seat_firsts, alike_names, differing_pair}
+use Rattle.lab_unfold.proofs.CallerLemmas.{seat_firsts}
+use Rattle.lab_recall.proofs.FirstPairs.{items_length, alike_names, differing_pair}
 use Rattle.lab_recall.proofs.names.check_names.Goals as goal
 
 pub first_differing-requires-clause-count : goal.first_differing-requires-clause-count

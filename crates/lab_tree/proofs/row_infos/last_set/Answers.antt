@@ -6,6 +6,7 @@ use Rattle.lab_world.proofs.CallerLemmas.{whole_parts}
 use Rattle.lab_unfold.proofs.CallerLemmas.{here_below, read_parent, read_root}
 use Rattle.lab_unfold.specs.Parents.{history_at}
 use Rattle.lab_world.specs.Games.{game_model}
+use Rattle.lab_world.specs.Seats.{seat_number}
 use Rattle.lab_tree.specs.Trees.{set_at}
 use Rattle.lab_tree.proofs.Reading.{said_at, item_step}
 use Rattle.lab_tree.proofs.RowLemmas.{terminal_long, set_behind, last_found}
@@ -28,7 +29,7 @@ bounds c =
     let g = game_model c.args.game.now in
     let b = read_parent g c.args.items.now c.args.id.0 c.item-history.result.now c.in-Some.parent c.requires.unfolded c.item-history.ensures c.in-Some.is in
     let there : c.args.id.0 < length c.args.items.now.items = c.requires.there in
-    omega (arith, here_below g c.args.items.now c.args.id.0 c.requires.unfolded there, ap length c.requires.sets, length-map (histories g) (set_at g c.args.seat), b.below)
+    omega (arith, here_below g c.args.items.now c.args.id.0 c.requires.unfolded there, ap length c.requires.sets, length-map (histories g) (set_at g (seat_number c.args.seat)), b.below)
 
 pub unreachable-requires-in_default-sets : goal.unreachable-requires-in_default-sets
 unreachable-requires-in_default-sets c =
@@ -36,16 +37,16 @@ unreachable-requires-in_default-sets c =
     let b = read_parent g c.args.items.now c.args.id.0 c.item-history.result.now c.in-Some.parent c.requires.unfolded c.item-history.ensures c.in-Some.is in
     let there : c.args.id.0 < length c.args.items.now.items = c.requires.there in
     c.in_default-sets.not-Some _
-    (said_at g (set_at g c.args.seat) c.args.sets.now c.in-Some.parent.0 None c.requires.sets (omega (arith, here_below g c.args.items.now c.args.id.0 c.requires.unfolded there, b.below))
-    ∙ set_behind g c.args.seat c.args.id.0 c.in-Some.parent.0 b)
+    (said_at g (set_at g (seat_number c.args.seat)) c.args.sets.now c.in-Some.parent.0 None c.requires.sets (omega (arith, here_below g c.args.items.now c.args.id.0 c.requires.unfolded there, b.below))
+    ∙ set_behind g (seat_number c.args.seat) c.args.id.0 c.in-Some.parent.0 b)
 
 pub returns : goal.returns
 returns c =
     let g = game_model c.args.game.now in
     let b = read_parent g c.args.items.now c.args.id.0 c.item-history.result.now c.in-Some.parent c.requires.unfolded c.item-history.ensures c.in-Some.is in
     let there : c.args.id.0 < length c.args.items.now.items = c.requires.there in
-    let set = said_at g (set_at g c.args.seat) c.args.sets.now c.in-Some.parent.0 None c.requires.sets (omega (arith, here_below g c.args.items.now c.args.id.0 c.requires.unfolded there, b.below))
-    ∙ set_behind g c.args.seat c.args.id.0 c.in-Some.parent.0 b in
+    let set = said_at g (set_at g (seat_number c.args.seat)) c.args.sets.now c.in-Some.parent.0 None c.requires.sets (omega (arith, here_below g c.args.items.now c.args.id.0 c.requires.unfolded there, b.below))
+    ∙ set_behind g (seat_number c.args.seat) c.args.id.0 c.in-Some.parent.0 b in
     let step = item_step g c.args.items.now c.args.id.0 c.in-Some.parent.0 c.item-history.result.now c.requires.unfolded c.item-history.ensures b in
-    last_found g c.args.seat c.args.id.0 c.in-Some.parent.0 b c.in-Some-sets.set c.action_of.result (get_or c.args.sets.now c.in-Some.parent.0 None) c.item-history.result.now.step c.in-Some-step.step
+    last_found g (seat_number c.args.seat) c.args.id.0 c.in-Some.parent.0 b c.in-Some-sets.set c.action_of.result (get_or c.args.sets.now c.in-Some.parent.0 None) c.item-history.result.now.step c.in-Some-step.step
     set c.in-Some-sets.is step c.in-Some-step.is c.action_of.ensures

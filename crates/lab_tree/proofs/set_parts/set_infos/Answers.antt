@@ -2,6 +2,7 @@ use Rattle.std.proofs.Common.{◌≡◌, ◌<◌, ◌∙◌, List, [], ℕ, leng
 use Rattle.std.proofs.lemmas.List.{length-map}
 use Rattle.lab_defs_game.specs.Sets.{Item, seen, sets}
 use Rattle.lab_world.specs.Games.{game_model}
+use Rattle.lab_world.specs.Seats.{seat_number}
 use Rattle.lab_unfold.specs.Parents.{history_at}
 use Rattle.lab_tree.specs.SetValues.{set_with}
 use Rattle.lab_tree.proofs.NodeLemmas.{key_at}
@@ -11,7 +12,7 @@ use Rattle.lab_tree.proofs.set_parts.set_infos.Goals as goal
 pub loop-place-preserved : goal.loop-place-preserved
 loop-place-preserved c =
     let g = game_model c.args.game.now in
-    let seat = c.args.seat in
+    let seat = seat_number c.args.seat in
     let order = c.args.order.now in
     let J = c.loop-place.place in
     let inv = c.loop-place.invariant in
