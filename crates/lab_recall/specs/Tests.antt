@@ -1,4 +1,4 @@
--- What tells by the first histories of sets that a game has no perfect recall.
+-- What shows, by the first histories of sets, that a game has no perfect recall.
 use Rattle.std.specs.Prelude.{ℕ, ◌≡◌, ◌<◌, List, [], slice_index, slice_index_or, Bool, true, false, not, ◌&&◌, ◌==◌}
 use Rattle.lab_defs_text.specs.Games.{GameModel}
 use Rattle.lab_defs_game.specs.Histories.{History, histories, place_of, action_names}

@@ -1,4 +1,4 @@
-//! Whether what a seat sees tells its own actions.
+//! Whether what a seat sees determines its own actions.
 
 ghost use Rattle.std.specs.Prelude.{◌≡◌, ◌<◌, ℕ, false, length, IfSome, IfNone, OnOk, IfErr};
 ghost use Rattle.lab_defs_text.specs.Games.{by_seen};

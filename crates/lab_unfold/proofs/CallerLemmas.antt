@@ -1,6 +1,6 @@
 -- What holds of the histories of every game, for those that read them.
-use Rattle.std.proofs.Common.{◌≡◌, ℕ, ◌<◌, ◌≤◌, List, [], ◌∷◌, ◌++◌, length, get_or, map, flat_map, take, Option, Some, None, cond, Bool, true, false, refl, sym, ap, ◌∙◌, subst, arith, inl, inr, ◌⊎◌}
-use Rattle.std.specs.Prelude.{◌&&◌, ◌==◌, if◌then◌else◌, slice_index_or, slice_get}
+use Rattle.std.proofs.Common.{◌≡◌, ℕ, pos, ◌<◌, ◌≤◌, List, [], ◌∷◌, ◌++◌, length, get_or, map, flat_map, take, Option, Some, None, cond, Bool, true, false, refl, sym, ap, ◌∙◌, subst, arith, inl, inr, ◌⊎◌}
+use Rattle.std.specs.Prelude.{◌&&◌, ◌==◌, if◌then◌else◌, slice_index, slice_index_or, slice_get}
 use Rattle.std.specs.declared.cmp.Ordering.{Ordering}
 use Rattle.std.specs.declared.cmp.Ordering.TheVariants.{Less}
 use Rattle.std.specs.Ordering.{is_eq}
@@ -12,7 +12,7 @@ use Rattle.lab_defs_text.specs.Games.{GameModel}
 use Rattle.lab_defs_game.specs.Histories as model
 use Rattle.lab_defs_game.specs.Histories.{histories}
 use Rattle.lab_defs_game.specs.Recall.{one_set, place_of_first}
-use Rattle.lab_defs_game.specs.Chance.{scale}
+use Rattle.lab_defs_game.specs.Chance.{chance, scale}
 use Rattle.lab_defs_game.specs.Laws.{history_cmp}
 use Rattle.lab_defs_game.specs.Unfolding.{size}
 use Rattle.lab_defs_game.specs.Sets.{seen, item_of, public_list, set_cmp, most_decisions}
@@ -111,7 +111,7 @@ pub read_first : (g : GameModel) (i : ℕ) (items : List History) (d : History) 
     → history_at g i ≡ []
 read_first = parents.read_first
 
--- what was told of the first histories, at one of them
+-- a value of each of the first histories, at one of them
 pub told_at : {X : Type 0} (g : GameModel) (f : model.History → X) (j n : ℕ) (told : List X) (d : X) → told ≡ map f (take n (histories g)) → j < n → n ≤ length (histories g)
     → get_or told j d ≡ f (history_at g j)
 told_at g f j n told d = parents.told_at g f j n told d
@@ -138,6 +138,14 @@ read_parent g u i h p e s q =
 -- without it there is no step
 pub read_root : (g : GameModel) (u : Unfolded) (i : ℕ) (h : History) → u ≡ unfolded g → slice_get u.items i ≡ Some h → h.parent ≡ None → history_at g i ≡ []
 read_root g u i h e s q = no_parent g (history_at g i) (sym (ap (λ (h : History). h.parent) (read_here g u i h e s)) ∙ q)
+
+-- what a history pays
+pub read_payoff : (g : GameModel) (u : Unfolded) (i : ℕ) → u ≡ unfolded g → i < length u.items → slice_index_or u.payoffs i (pos 0) ≡ model.payoff g (history_at g i)
+read_payoff g u i e l = ap (λ (u : Unfolded). slice_index_or u.payoffs i (pos 0)) e ∙ get_or-map (model.payoff g) (histories g) i [] (pos 0) (here_below g u i e l)
+
+-- its chance
+pub read_chance : (g : GameModel) (u : Unfolded) (i : ℕ) → u ≡ unfolded g → i < length u.items → slice_index u.chances i ≡ chance g (history_at g i)
+read_chance g u i e l = ap (λ (u : Unfolded). slice_index u.chances i) e ∙ get_or-map (chance g) (histories g) i [] 0 (here_below g u i e l)
 
 -- ---- first histories
 
@@ -178,6 +186,10 @@ node_firsts_are g =
     never : true ≡ false → ⊥
     never e = cc
 
+-- as they are read of the histories of a game
+pub read_node_firsts : (g : GameModel) (u : Unfolded) (firsts : List ℕ) → u ≡ unfolded g → firsts ≡ u.node_firsts → AreFirsts (λ h. true) (one_node g) (histories g) firsts
+read_node_firsts g u firsts e r = subst (AreFirsts (λ h. true) (one_node g) (histories g)) (sym (r ∙ ap (λ (u : Unfolded). u.node_firsts) e)) (node_firsts_are g)
+
 -- two histories that are not terminal and see the same are of one set
 pub one_set_from : (g : GameModel) (seat : ℕ) (h k : model.History) → is_inner g h ≡ true → is_inner g k ≡ true → seen g seat h ≡ seen g seat k → one_set g seat h k ≡ true
 one_set_from g seat h k first second same =
@@ -195,7 +207,7 @@ set_firsts_are g seat =
     firsts_from (is_inner g) (one_set g seat) (set_first g seat) (histories g) (λ h t. one_set_from g seat h h t t refl) (set_first_inner g seat)
     (λ h e. ap (λ b. cond b (place_of_first (λ k. one_set g seat k h) (histories g)) 0) e)
 
--- as they are read of the histories of a game
+-- as they are read
 read_set_firsts : (g : GameModel) (seat : ℕ) (u : Unfolded) (firsts : List ℕ) → (seat ≡ 1) ⊎ (seat ≡ 2) → u ≡ unfolded g → firsts ≡ (if seat == 1 then u.set_firsts1 else u.set_firsts2)
     → AreFirsts (is_inner g) (one_set g seat) (histories g) firsts
 read_set_firsts g seat u firsts s e r = subst (AreFirsts (is_inner g) (one_set g seat) (histories g)) (sym (at s)) (set_firsts_are g seat)

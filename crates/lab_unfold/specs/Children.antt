@@ -11,7 +11,7 @@ use Rattle.lab_unfold.specs.declared.history.History.{History}
 use Rattle.lab_world.specs.Filled.{row_at}
 use Rattle.lab_unfold.specs.Values.{step_in}
 
--- the histories of this depth behind a parent, by the outcomes of a row, the first of which has the number k
+-- the histories of this depth after a parent, by the outcomes of a row, the first of which has the number k
 abbrev pub row_children : (parent : HistoryId) (depth a b k : ℕ) → List Outcome → List History
 row_children parent depth a b k [] = []
 row_children parent depth a b k (o ∷ os) =
@@ -25,7 +25,7 @@ second_children parent depth w a b n = flat_map (λ b. row_children parent depth
 abbrev pub first_children : (parent : HistoryId) (depth : ℕ) → World → (a n : ℕ) → List History
 first_children parent depth w a n = flat_map (λ a. second_children parent depth w a 0 (length w.two)) (range_with_len a n)
 
--- the history of this depth behind a parent that leads to the place n, by a step
+-- the history of this depth after a parent that leads to the place n, by a step
 abbrev pub child_in : GameModel → (parent : HistoryId) (n depth : ℕ) → model.Step → History
 child_in g parent n depth s = record { parent = Some parent; step = Some (step_in s); world = record { 0 = (model.outcome_of g n s).next }; depth = depth }
 

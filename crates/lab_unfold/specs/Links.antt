@@ -18,11 +18,11 @@ abbrev pub IsBefore : ℕ → Option Link → Type 0
 IsBefore i None = Unit {0}
 IsBefore i (Some l) = l.parent < i
 
--- each parent stands before
+-- each parent comes before
 abbrev pub AreBefore : List (Option Link) → Type 0
 AreBefore links = (i : ℕ) → i < length links → IsBefore i (slice_index_or links i None)
 
--- the list of an entry is empty, or that of an earlier one with the item behind it
+-- the list of an entry is empty, or that of an earlier one with the item after it
 abbrev pub IsMade : List (List Item) → ℕ → Option Link → Type 0
 IsMade all i None = slice_index_or all i [] ≡ []
 IsMade all i (Some l) = (l.parent < i) × (slice_index_or all i [] ≡ slice_index_or all l.parent [] ++ l.item ∷ [])
@@ -62,7 +62,7 @@ abbrev pub IsTold : (ℕ → Option Link) → ℕ → Option Link → ℕ → Ty
 IsTold keys i None f = f ≡ 0
 IsTold keys i (Some q) f = (f ≤ i) × IsFirstKey keys q f
 
--- what is kept of the entries that have been told: at each key the first of them
+-- what is kept of the entries whose first ones are found: at each key the first of them
 pub record Keyed (links : List (Option Link)) (firsts : List ℕ) (kept : Link → Option ℕ) : Type 0 where
   pub told : (i : ℕ) → i < length firsts → IsTold (key_at links firsts) i (key_at links firsts i) (slice_index_or firsts i 0)
   pub some : (q : Link) (f : ℕ) → kept q ≡ Some f → (f < length firsts) × IsFirstKey (key_at links firsts) q f

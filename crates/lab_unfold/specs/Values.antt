@@ -21,7 +21,7 @@ step_in s = record { place1 = s.action1; place2 = s.action2; outcome = s.outcome
 abbrev pub step_model : Step → model.Step
 step_model s = record { action1 = s.place1; action2 = s.place2; outcome = s.outcome }
 
--- the number of a history: how many stand before it
+-- the number of a history: how many come before it
 abbrev pub history_number : GameModel → model.History → ℕ
 history_number g h = number_of history_cmp (model.histories g) h
 

@@ -11,7 +11,7 @@ use super::link::Link;
 use std::alloc::{AllocError, Global};
 use std::collections::BTreeMap;
 
-/// For each entry the number of the first one with the same list, where the list of an entry is that of its parent with its item behind it, or empty where it has no link.
+/// For each entry the number of the first one with the same list, where the list of an entry is that of its parent with its item after it, or empty where it has no link.
 pub fn firsts(alloc: Global, links: &[Option<Link>]) -> Result<Vec<u32>, AllocError>
     requires few { length links.now ≤ 65536 }
     requires before { AreBefore links.now }

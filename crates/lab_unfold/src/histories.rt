@@ -1,4 +1,4 @@
-//! The histories of a game, with what is told of each and the scale.
+//! The histories of a game, with the chance, the payoff and the first histories of each, and the scale.
 
 ghost use Rattle.std.specs.Prelude.{
   ◌≡◌,

@@ -1,4 +1,4 @@
-//! What is told of a history, of all of them, and of a game that is not unfolded.
+//! A history as it is kept, the scale of all of them, and why a game is not unfolded.
 
 use lab_world::WorldId;
 
@@ -14,7 +14,7 @@ pub struct Step {
     pub outcome: u32,
 }
 
-/// Steps from the root world, told by the last one.
+/// Steps from the root world, kept by the last one.
 #[derive(Clone, Copy, Debug, PartialEq, Eq)]
 pub struct History {
     /// The history without the last step; none where there is no step.

@@ -27,14 +27,14 @@ pub fn unfold(alloc: Global, game: &Game) -> Result<Histories, UnfoldFault>
         return Err(UnfoldFault::HorizonPassed { history_world });
     }
     let scale = scale_within(alloc, game, items.as_slice())?;
-    let Ok(histories) = told(alloc, game, items, scale) else {
+    let Ok(histories) = completed(alloc, game, items, scale) else {
         return Err(UnfoldFault::Memory);
     };
     Ok(histories)
 }
 
-// The histories with what is told of each.
-fn told(
+// The histories with the chance, the payoff and the first histories of each.
+fn completed(
     alloc: Global,
     game: &Game,
     items: Vec<History>,

@@ -44,7 +44,7 @@ fn product(a: u128, b: u128) -> Option<u128>
     Some(a * b)
 }
 
-// The unit of a step: the least common multiple of the totals of all rows of worlds where histories of `depth` steps stand.
+// The unit of a step: the least common multiple of the totals of all rows of worlds where histories of `depth` steps lead.
 fn chance_unit(game: &Game, items: &[History], depth: u32) -> Option<u128>
     requires { items.now ≡ map (history_in (game_model game.now)) (histories (game_model game.now)) }
     ensures { result ≡ told_scale (chances.chance_unit (game_model game.now) depth) }

@@ -3,7 +3,7 @@ use Rattle.lab_world.specs.Games.{game_model}
 use Rattle.lab_world.proofs.CallerLemmas.{horizon_some}
 use Rattle.lab_unfold.proofs.BirthLemmas.{births_sorted}
 use Rattle.lab_unfold.proofs.StepLemmas.{steps_tell, value_is}
-use Rattle.lab_unfold.proofs.unfolding.told.Goals as goal
+use Rattle.lab_unfold.proofs.unfolding.completed.Goals as goal
 
 pub new-requires-clause-order : goal.new-requires-clause-order
 new-requires-clause-order c = births_sorted (game_model c.args.game.now) c.args.items.items (horizon_some c.args.game.now) c.requires.items
