@@ -17,7 +17,7 @@ use Rattle.lab_defs_game.proofs.Orders.{list_total, list_exact}
 use Rattle.lab_defs_game.proofs.TreeLaws.{depth_law}
 use Rattle.lab_unfold.specs.Firsts.{AreFirsts, one_node}
 use Rattle.lab_unfold.specs.Values.{Unfolded, unfolded}
-use Rattle.lab_unfold.proofs.CallerLemmas.{node_firsts_are}
+use Rattle.lab_unfold.proofs.CallerLemmas.{read_node_firsts}
 use Rattle.lab_tree.specs.declared.info.NodeId.{NodeId}
 use Rattle.lab_unfold.specs.Parents.{history_at}
 use Rattle.lab_tree.specs.Keyed.{is_first, keyed}
@@ -51,7 +51,7 @@ pub record NodesMade (g : GameModel) (firsts : List ℕ) (order : List (List ℕ
 pub made : (g : GameModel) (u : Unfolded) (firsts : List ℕ) (keys order : List (List ℕ × ℕ)) → u ≡ unfolded g → firsts ≡ u.node_firsts
     → keys ≡ keyed (λ h. true) (public_list g) (histories g) firsts (length (histories g)) → order ≡ in_order (pair_cmp list_cmp) keys → NodesMade g firsts order
 made g u firsts keys order e f k o = record {
-  firsts_are = subst (AreFirsts (λ h. true) (one_node g) (histories g)) (sym (f ∙ ap (λ (u : Unfolded). u.node_firsts) e)) (node_firsts_are g);
+  firsts_are = read_node_firsts g u firsts e f;
   order_is = o ∙ ap (in_order (pair_cmp list_cmp)) k;
 }
 

@@ -1,15 +1,13 @@
 use Rattle.std.proofs.Common.{◌≡◌, ◌<◌, ◌∙◌, ap, sym, subst, List, length, map, ℕ, arith}
 use Rattle.std.specs.Prelude.{slice_index}
-use Rattle.std.proofs.lemmas.List.{length-map}
 use Rattle.std.specs.List.{All}
 use Rattle.std.specs.List.Sorted.{IsStrictlySortedBy}
 use Rattle.lab_defs_game.specs.Histories as model
 use Rattle.lab_defs_game.specs.Keys.{list_cmp}
 use Rattle.lab_world.specs.Games.{game_model}
-use Rattle.lab_unfold.specs.Firsts.{node_first}
 use Rattle.lab_unfold.specs.Values.{Unfolded}
 use Rattle.lab_world.proofs.CallerLemmas.{horizon_small}
-use Rattle.lab_unfold.proofs.CallerLemmas.{all_length}
+use Rattle.lab_unfold.proofs.CallerLemmas.{all_length, read_node_firsts}
 use Rattle.lab_tree.specs.NodeValues.{HasList, keys_in, end_among, parent_node}
 use Rattle.lab_tree.specs.Ranks.{AreApart, AreRanks}
 use Rattle.lab_tree.specs.Trees.{node_id}
@@ -18,8 +16,7 @@ use Rattle.lab_tree.proofs.nodes.Nodes.build.Goals as goal
 
 pub node_keys-requires-clause-count : goal.node_keys-requires-clause-count
 node_keys-requires-clause-count c =
-    let g = game_model c.args.game.now in
-    ap length (c.node_firsts-firsts.ensures ∙ ap (λ (u : Unfolded). u.node_firsts) c.requires) ∙ length-map (model.histories g) (node_first g)
+    (read_node_firsts (game_model c.args.game.now) c.args.histories.now c.node_firsts-firsts.result.now c.requires c.node_firsts-firsts.ensures).count
 
 pub ranks-requires-clause-few : goal.ranks-requires-clause-few
 ranks-requires-clause-few c =
