@@ -1,10 +1,9 @@
-use Rattle.std.proofs.Common.{◌∙◌, sym, ap, cond, arith}
+use Rattle.std.proofs.Common.{[], ◌∙◌, sym, ap, cond, arith}
 use Rattle.std.specs.Prelude.{◌==◌}
 use Rattle.lab_defs_text.specs.Texts.{is_world}
 use Rattle.lab_defs_game.specs.Histories as model
-use Rattle.lab_defs_game.specs.Histories.{actions_at, place_of}
+use Rattle.lab_defs_game.specs.Histories.{place_of}
 use Rattle.lab_math.proofs.Members.{in_get_or}
-use Rattle.std.proofs.Common.{[]}
 use Rattle.lab_world.specs.Games.{game_model}
 use Rattle.lab_world.specs.Seats.{seat_number}
 use Rattle.lab_world.proofs.CallerLemmas.{whole_parts}

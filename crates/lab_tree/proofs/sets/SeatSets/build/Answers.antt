@@ -3,7 +3,7 @@ use Rattle.std.specs.List.{All, range_with_len}
 use Rattle.std.proofs.lemmas.List.{length-map}
 use Rattle.lab_defs_game.specs.Nodes as nodes
 use Rattle.lab_form.specs.Forms.{AreSets}
-use Rattle.lab_world.proofs.CallerLemmas.{whole_parts}
+use Rattle.lab_world.proofs.CallerLemmas.{whole_parts, one_or_two}
 use Rattle.lab_world.specs.Games.{game_model}
 use Rattle.lab_world.specs.Seats.{seat_number}
 use Rattle.lab_tree.specs.declared.info.SetInfo.{SetInfo}
@@ -13,7 +13,6 @@ use Rattle.lab_tree.specs.SetValues.{starts_of, span_at, AreRising}
 use Rattle.lab_tree.specs.TreeForms.{form_sets}
 use Rattle.lab_tree.proofs.FormLaws.{sets_stand}
 use Rattle.lab_tree.proofs.PartLemmas.{alike_names}
-use Rattle.lab_world.proofs.CallerLemmas.{one_or_two}
 use Rattle.lab_tree.proofs.SpanLemmas.{infos, starts, starts_long, infos_rise, ends_below, made_bounds, made_value}
 use Rattle.lab_tree.proofs.sets.SeatSets.build.Goals as goal
 
