@@ -23,7 +23,7 @@ use Rattle.lab_cli.specs.declared.stop.Stop.TheVariants as stop
 use Rattle.lab_cli.specs.Stops.{IsRefusal, Denies, Gives, RefusesUnfolding, RefusesRecall}
 use Rattle.lab_unfold.specs.Values.{Unfolded, unfolded}
 use Rattle.lab_unfold.specs.declared.history.HistoryId.{HistoryId}
-use Rattle.lab_unfold.proofs.ParentLemmas.{all_length}
+use Rattle.lab_unfold.proofs.CallerLemmas.{all_length}
 
 -- both histories that are named are there
 pub differ_there : (g : GameModel) (seat m n : ℕ) → recall_fault g ≡ Some (legal_differs seat m n) → (m < length (histories g)) × (n < length (histories g))

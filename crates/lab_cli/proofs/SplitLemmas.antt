@@ -1,9 +1,8 @@
 -- Even splits along the histories of a game that can be played, and what they add.
 use Rattle.std.proofs.Common.{◌≡◌, ℕ, zero, suc, ◌+◌, ◌*◌, ◌^◌, ◌<◌, ◌≤◌, ℤ, pos, ◌*ℤ◌, ◌+ℤ◌, List, [], ◌∷◌, ◌++◌, length, get_or, map, take, max, None, Some, Bool, true, false, cond, not, None, refl, sym, ap, ◌∙◌, subst, arith, le_trans, le_of_eq, mul-le-mul, pow-add}
-use Rattle.std.specs.Prelude.{unsigned_abs, nat_le, slice_index, slice_get}
+use Rattle.std.specs.Prelude.{unsigned_abs, nat_le, slice_index, slice_index_or, slice_get}
 use Rattle.std.proofs.lemmas.Nat.{mul-le}
 use Rattle.std.proofs.lemmas.Int.{ints, unsigned_abs-mul}
-use Rattle.std.proofs.lemmas.List.{get_or-map}
 use Rattle.std.proofs.lemmas.Option.{get_or_from_slice_get}
 use Rattle.std.proofs.Math.Nat.{one-le-pow}
 use Rattle.std.proofs.Math.Seq.{take-suc, take-length}
@@ -11,7 +10,6 @@ use Rattle.lab_math.specs.Sums.{total}
 use Rattle.lab_math.proofs.IntegerSums.{total-append}
 use Rattle.lab_math.proofs.Members.{In, in_get_or, in_filter}
 use Rattle.lab_math.proofs.NaturalSums.{greatest_over-least}
-use Rattle.lab_defs_text.specs.Words.{Bytes}
 use Rattle.lab_defs_text.specs.Games.{GameModel}
 use Rattle.lab_defs_text.specs.Texts.{is_world}
 use Rattle.lab_defs_game.specs.Histories.{History, histories, inner_histories, terminal_histories, is_terminal, place_of, reached, actions_at, payoff}
@@ -30,18 +28,17 @@ use Rattle.lab_cli.proofs.Splitting.{Splits, uniform_sum, inner_pays, own_below,
 use Rattle.lab_defs_game.specs.Accepted.{IsAccepted}
 use Rattle.lab_defs_game.proofs.ChanceSizes.{chance_le, some_scale}
 use Rattle.lab_defs_game.proofs.GridSizes.{some_grid}
-use Rattle.lab_world.specs.declared.place.Place.{Place}
 use Rattle.lab_world.specs.Games.{game_model}
-use Rattle.lab_world.specs.Models.{place_model}
 use Rattle.lab_unfold.specs.declared.history.History.{History as Item}
 use Rattle.lab_unfold.specs.declared.history.HistoryId.{HistoryId}
 use Rattle.lab_unfold.specs.declared.history.Scale.{Scale}
 use Rattle.lab_unfold.specs.declared.history.Step.{Step as ItemStep}
 use Rattle.lab_unfold.specs.Values.{Unfolded, history_in, scale_in, step_in, step_model}
-use Rattle.lab_unfold.proofs.WorldLemmas.{horizon_small}
-use Rattle.lab_unfold.proofs.ParentLemmas.{history_at, Behind, read_is, read_behind, read_step, read_first, step_same, told_at, all_length, most_small}
+use Rattle.lab_world.proofs.CallerLemmas.{horizon_small}
+use Rattle.lab_unfold.specs.Parents.{history_at, Behind}
+use Rattle.lab_unfold.proofs.CallerLemmas.{read_here, read_parent, read_root, read_step, read_chance, read_payoff, step_same, told_at, all_length, most_small}
 use Rattle.lab_cli.specs.declared.playable.Playable.{Playable}
-use Rattle.lab_cli.specs.EvenSplits.{split_twice, place_payoff}
+use Rattle.lab_cli.specs.EvenSplits.{split_twice}
 
 -- ---- the grids
 
@@ -183,35 +180,26 @@ items_few p =
     omega (arith, few, history_count_law g g.horizon)
 
 -- a history with a number
-pub item_is : (p : Playable) (i : ℕ) (x : Item) → i < length (histories (game_model p.game)) → slice_get p.histories.items i ≡ Some x
+pub item_is : (p : Playable) (i : ℕ) (x : Item) → slice_get p.histories.items i ≡ Some x
     → x ≡ history_in (game_model p.game) (history_at (game_model p.game) i)
-item_is p i x l e =
-    sym (get_or_from_slice_get p.histories.items i x x e)
-    ∙ read_is (game_model p.game) i p.histories.items x (ap (λ (u : Unfolded). u.items) p.unfolded) (omega (arith, l, items_length p))
+item_is p i x e = read_here (game_model p.game) p.histories i x p.unfolded e
 
 -- and its chance
 pub chance_is : (p : Playable) (i : ℕ) → i < length (histories (game_model p.game)) → slice_index p.histories.chances i ≡ chance (game_model p.game) (history_at (game_model p.game) i)
-chance_is p i l =
-    ap (λ (u : Unfolded). slice_index u.chances i) p.unfolded
-    ∙ get_or-map (chance (game_model p.game)) (histories (game_model p.game)) i [] 0 l
+chance_is p i l = read_chance (game_model p.game) p.histories i p.unfolded (omega (arith, l, items_length p))
 
 -- and what it pays
-pub payoff_is : (p : Playable) (i : ℕ) (x : Item) (z : ℤ) (places : List Place) → i < length (histories (game_model p.game)) → slice_get p.histories.items i ≡ Some x
-    → places ≡ p.game.places → ((actions : List Bytes) → z ≡ place_payoff (map (place_model actions) places) x.world.0) → z ≡ payoff (game_model p.game) (history_at (game_model p.game) i)
-payoff_is p i x z places l e same paid =
-    paid p.game.actions
-    ∙ ap (λ ps. place_payoff (map (place_model p.game.actions) ps) x.world.0) same
-    ∙ ap (λ (k : Item). place_payoff (map (place_model p.game.actions) p.game.places) k.world.0) (item_is p i x l e)
+pub payoff_is : (p : Playable) (i : ℕ) → i < length (histories (game_model p.game)) → slice_index_or p.histories.payoffs i (pos 0) ≡ payoff (game_model p.game) (history_at (game_model p.game) i)
+payoff_is p i l = read_payoff (game_model p.game) p.histories i p.unfolded (omega (arith, l, items_length p))
 
 -- what it adds
-pub share_is : (p : Playable) (i : ℕ) (x : Item) (z : ℤ) (c w : ℕ) (places : List Place) → i < length (histories (game_model p.game)) → slice_get p.histories.items i ≡ Some x
-    → places ≡ p.game.places → ((actions : List Bytes) → z ≡ place_payoff (map (place_model actions) places) x.world.0)
+pub share_is : (p : Playable) (i : ℕ) (z : ℤ) (c w : ℕ) → i < length (histories (game_model p.game)) → z ≡ slice_index_or p.histories.payoffs i (pos 0)
     → c ≡ slice_index p.histories.chances i → w ≡ splits_along (game_model p.game) (history_at (game_model p.game) i)
     → (pos c *ℤ z) *ℤ pos w ≡ share_of (game_model p.game) (history_at (game_model p.game) i)
-share_is p i x z c w places l e same paid ce we =
+share_is p i z c w l ze ce we =
     let g = game_model p.game in
     ap (λ k. (pos k *ℤ z) *ℤ pos w) (ce ∙ chance_is p i l)
-    ∙ ap (λ y. (pos (chance g (history_at g i)) *ℤ y) *ℤ pos w) (payoff_is p i x z places l e same paid)
+    ∙ ap (λ y. (pos (chance g (history_at g i)) *ℤ y) *ℤ pos w) (ze ∙ payoff_is p i l)
     ∙ ap (λ v. (pos (chance g (history_at g i)) *ℤ payoff g (history_at g i)) *ℤ pos v) we
 
 pub shared_at : (p : Playable) (i : ℕ) → i < length (histories (game_model p.game)) → Shared (game_model p.game) (history_at (game_model p.game) i)
@@ -234,12 +222,9 @@ pub power_is : (p : Playable) (s : Scale) → s ≡ p.histories.scale → s.grid
 power_is p s e = ap (λ (k : Scale). k.grid ^ (k.most1 + k.most2)) (scale_is p s e)
 
 -- the history that a parent names
-pub behind_is : (p : Playable) (i : ℕ) (x : Item) (parent : HistoryId) → i < length (histories (game_model p.game)) → slice_get p.histories.items i ≡ Some x → x.parent ≡ Some parent
+pub behind_is : (p : Playable) (i : ℕ) (x : Item) (parent : HistoryId) → slice_get p.histories.items i ≡ Some x → x.parent ≡ Some parent
     → Behind (game_model p.game) i parent.0
-behind_is p i x parent l e n =
-    let items = ap (λ (u : Unfolded). u.items) p.unfolded in
-    read_behind (game_model p.game) i p.histories.items x parent items (omega (arith, l, items_length p))
-    (ap (λ (k : Item). k.parent) (get_or_from_slice_get p.histories.items i x x e) ∙ n)
+behind_is p i x parent e n = read_parent (game_model p.game) p.histories i x parent p.unfolded e n
 
 -- its last step
 pub step_behind : (p : Playable) (i j : ℕ) (x : Item) (b : Behind (game_model p.game) i j) → i < length (histories (game_model p.game)) → slice_get p.histories.items i ≡ Some x
@@ -250,11 +235,8 @@ step_behind p i j x b l e =
     ∙ read_step (game_model p.game) i j p.histories.items x b items (omega (arith, l, items_length p))
 
 -- a history with no parent has no step
-pub first_is : (p : Playable) (i : ℕ) (x : Item) → i < length (histories (game_model p.game)) → slice_get p.histories.items i ≡ Some x → x.parent ≡ None → history_at (game_model p.game) i ≡ []
-first_is p i x l e n =
-    let items = ap (λ (u : Unfolded). u.items) p.unfolded in
-    read_first (game_model p.game) i p.histories.items x items (omega (arith, l, items_length p))
-    (ap (λ (k : Item). k.parent) (get_or_from_slice_get p.histories.items i x x e) ∙ n)
+pub first_is : (p : Playable) (i : ℕ) (x : Item) → slice_get p.histories.items i ≡ Some x → x.parent ≡ None → history_at (game_model p.game) i ≡ []
+first_is p i x e n = read_root (game_model p.game) p.histories i x p.unfolded e n
 
 -- weights after a step
 pub weight_behind : (p : Playable) (i : ℕ) (x y : Item) (parent : HistoryId) (step : ItemStep) (told : List ℕ) → i < length (histories (game_model p.game))
@@ -263,8 +245,8 @@ pub weight_behind : (p : Playable) (i : ℕ) (x y : Item) (parent : HistoryId) (
     → split_twice (game_model p.game) y.world.0 (step_model step) (get_or told parent.0 0) ≡ splits_along (game_model p.game) (history_at (game_model p.game) i)
 weight_behind p i x y parent step told l ex np ns ey et =
     let g = game_model p.game in
-    let b = behind_is p i x parent l ex np in
-    let world : y.world.0 ≡ reached g g.root (history_at g parent.0) = ap (λ (k : Item). k.world.0) (item_is p parent.0 y (omega (arith, l, b.below)) ey) in
+    let b = behind_is p i x parent ex np in
+    let world : y.world.0 ≡ reached g g.root (history_at g parent.0) = ap (λ (k : Item). k.world.0) (item_is p parent.0 y ey) in
     let same : step_model step ≡ b.step = step_same step b.step (sym ns ∙ step_behind p i parent.0 x b l ex) in
     ap (λ n. split_twice g n (step_model step) (get_or told parent.0 0)) world
     ∙ ap (λ s. split_twice g (reached g g.root (history_at g parent.0)) s (get_or told parent.0 0)) same

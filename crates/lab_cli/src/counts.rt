@@ -36,12 +36,8 @@ pub fn line_of_game(alloc: Global, played: Playable) -> Result<Vec<u8>, AllocErr
 fn counted(alloc: Global, played: Playable) -> Result<Counts, AllocError>
     ensures { IfOk result (λ c. counts_model c ≡ counts_of (game_model played.game)) }
 {
-    let Playable {
-        game,
-        histories,
-        firsts,
-    } = played;
-    match Tree::build_with(alloc, &game, histories, &firsts) {
+    let Playable { game, histories } = played;
+    match Tree::build(alloc, &game, histories) {
         Ok(tree) => Ok(counts_of_tree(&tree)),
         Err(NoMemory) => Err(AllocError),
     }

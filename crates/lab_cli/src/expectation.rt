@@ -14,26 +14,23 @@ ghost use Rattle.std.specs.Prelude.{
   map,
   take,
   slice_index_or,
-  List,
   IfOk,
 };
 ghost use Rattle.std.specs.Int.RustNames.{unsigned_abs};
 ghost use Rattle.lab_defs_text.specs.Fractions.{lowest_num, lowest_den};
-ghost use Rattle.lab_defs_text.specs.Words.{Bytes};
 ghost use Rattle.lab_defs_game.specs.Histories.{histories as all_histories};
 ghost use Rattle.lab_defs_value.specs.Expectation.{expectation_of_uniform, expectation_units};
 ghost use Rattle.lab_cli.specs.Splits.{splits_along, split_once, share_of};
 ghost use Rattle.lab_defs_value.specs.Rounding.{even_part};
 ghost use Rattle.lab_defs_game.specs.Accepted.{IsAccepted};
 ghost use Rattle.lab_world.specs.Games.{game_model};
-ghost use Rattle.lab_world.specs.Models.{place_model};
 ghost use Rattle.lab_unfold.specs.Values.{step_model};
-ghost use Rattle.lab_cli.specs.EvenSplits.{place_payoff, split_twice};
+ghost use Rattle.lab_cli.specs.EvenSplits.{split_twice};
 
 use crate::playable::Playable;
-use lab_unfold::{HistoryId, Step, world_at};
+use lab_unfold::{HistoryId, Step};
 use lab_units::{Fraction, pow_within, reduced};
-use lab_world::{Game, Place, WorldId};
+use lab_world::{Game, WorldId};
 use std::alloc::{AllocError, Global};
 
 /// What seat 1 expects where both seats split evenly, in lowest terms.
@@ -95,7 +92,7 @@ fn next_weight(played: &Playable, weights: &[u128], units: u128) -> u128
 fn split_step(game: &Game, place: WorldId, step: Step, left: u128) -> u128
     ensures { result ≡ split_twice (game_model game.now) place.0 (step_model step) left }
 {
-    let Some(world) = world_at(game, place) else {
+    let Some(world) = game.world(place) else {
         return left;
     };
     let left = split(game.grid, world.one.len(), step.place1, left);
@@ -143,8 +140,7 @@ fn share(played: &Playable, id: HistoryId, weight: u128) -> i128
     ensures share { result ≡ share_of (game_model played.now.game) (slice_index_or (all_histories (game_model played.now.game)) id.0 []) }
     ensures size { unsigned_abs result ≤ 2 ^ 64 }
 {
-    let history = played.histories.item(id);
-    let payoff = payoff_at(played.game.places.as_slice(), history.world);
+    let payoff = played.histories.payoff(id);
     multiplied(played.histories.chance(id), payoff, weight)
 }
 
@@ -163,14 +159,4 @@ fn added(sum: i128, share: i128) -> i128
     ensures { result ≡ sum +ℤ share }
 {
     sum + share
-}
-
-// What a place pays, 0 where it is no end.
-fn payoff_at(places: &[Place], place: WorldId) -> i32
-    ensures { (actions : List Bytes) → result ≡ place_payoff (map (place_model actions) places.now) place.0 }
-{
-    match places.get(place.0 as usize) {
-        Some(Place::End(payoff)) => *payoff,
-        _ => 0,
-    }
 }

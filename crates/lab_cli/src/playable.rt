@@ -6,27 +6,23 @@ ghost use Rattle.lab_defs_report.specs.GameModes.{accepted_at, playable as playa
 ghost use Rattle.lab_defs_game.specs.Accepted.{IsAccepted};
 ghost use Rattle.lab_world.specs.Games.{game_model};
 ghost use Rattle.lab_unfold.specs.Values.{unfolded};
-ghost use Rattle.lab_seen.specs.SetFirsts.{AreSetFirsts};
 ghost use Rattle.lab_cli.specs.Stops.{Denies, Gives};
 
 use crate::game_faults::{refused_recall, refused_unfolding};
 use crate::stop::Stop;
 use crate::text_faults::game_of;
-use lab_recall::checked_sets;
-use lab_seen::SetFirsts;
+use lab_recall::check_sets;
 use lab_unfold::{Histories, unfold};
 use lab_world::Game;
 use std::alloc::Global;
 
-/// A game that unfolds and has perfect recall, with its histories and the first ones of its information sets.
+/// A game that unfolds and has perfect recall, with its histories.
 #[derive(Drop)]
 pub struct Playable {
     pub game: Game,
     pub histories: Histories,
-    pub firsts: SetFirsts,
     ghost unfolded: { histories ≡ unfolded (game_model game) },
     ghost accepted: { IsAccepted (game_model game) },
-    ghost set_firsts: { AreSetFirsts (game_model game) firsts },
 }
 
 /// The game of a text whose last line has the number `done`, or the refusal of its first fault.
@@ -36,12 +32,8 @@ pub fn played_game(alloc: Global, text: &[u8], done: u32) -> Result<Playable, St
 {
     let game = game_of(alloc, text)?;
     let histories = unfolded_game(alloc, &game, done)?;
-    let firsts = recalled_game(alloc, &game, &histories, done)?;
-    Ok(Playable {
-        game,
-        histories,
-        firsts,
-    })
+    check_recall(alloc, &game, &histories, done)?;
+    Ok(Playable { game, histories })
 }
 
 // The histories of a game, or the refusal of a game that does not unfold.
@@ -56,21 +48,15 @@ fn unfolded_game(alloc: Global, game: &Game, done: u32) -> Result<Histories, Sto
     }
 }
 
-// The first histories of the sets of a game with perfect recall, or the refusal of any other one.
-fn recalled_game(
-    alloc: Global,
-    game: &Game,
-    histories: &Histories,
-    done: u32,
-) -> Result<SetFirsts, Stop>
+// Refuses a game without perfect recall.
+fn check_recall(alloc: Global, game: &Game, histories: &Histories, done: u32) -> Result<(), Stop>
     requires unfolded { histories.now ≡ unfolded (game_model game.now) }
     requires unfolds { unfold_fault (game_model game.now) ≡ None }
-    ensures firsts { IfOk result (λ f. AreSetFirsts (game_model game.now) f) }
     ensures recalls { OnOk result (recall_fault (game_model game.now) ≡ None) }
     ensures refused { IfErr result (λ s. Denies (accepted_at done (game_model game.now)) s) }
 {
-    match checked_sets(alloc, game, histories) {
-        Ok(firsts) => Ok(firsts),
+    match check_sets(alloc, game, histories) {
+        Ok(()) => Ok(()),
         Err(fault) => Err(refused_recall(alloc, game, histories, done, fault)),
     }
 }

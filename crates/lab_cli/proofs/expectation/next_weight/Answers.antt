@@ -12,12 +12,12 @@ overflow_cast-weights c =
 
 pub item-before-requires : goal.item-before-requires
 item-before-requires c =
-    let b = behind_is c.args.played.now (length c.args.weights.now) c.item-history.result.now c.in-Some-Some.parent c.requires.below c.item-history.ensures c.in-Some-Some.is-0 in
+    let b = behind_is c.args.played.now (length c.args.weights.now) c.item-history.result.now c.in-Some-Some.parent c.item-history.ensures c.in-Some-Some.is-0 in
     omega (arith, b.below, c.requires.below, items_length c.args.played.now)
 
 pub bounds-weights-parent : goal.bounds-weights-parent
 bounds-weights-parent c =
-    let b = behind_is c.args.played.now (length c.args.weights.now) c.item-history.result.now c.in-Some-Some.parent c.requires.below c.item-history.ensures c.in-Some-Some.is-0 in
+    let b = behind_is c.args.played.now (length c.args.weights.now) c.item-history.result.now c.in-Some-Some.parent c.item-history.ensures c.in-Some-Some.is-0 in
     omega (arith, b.below)
 
 pub returns-in-Some-Some : goal.returns-in-Some-Some
@@ -28,7 +28,7 @@ returns-in-Some-Some c =
 
 pub returns-in_default : goal.returns-in_default
 returns-in_default c =
-    let b = behind_is c.args.played.now (length c.args.weights.now) c.item-history.result.now c.in_default.field-0-0 c.requires.below c.item-history.ensures c.in_default.is-0 in
+    let b = behind_is c.args.played.now (length c.args.weights.now) c.item-history.result.now c.in_default.field-0-0 c.item-history.ensures c.in_default.is-0 in
     absurd (never _ (sym c.in_default.is-1 ∙ step_behind c.args.played.now (length c.args.weights.now) c.in_default.field-0-0.0 c.item-history.result.now b c.requires.below c.item-history.ensures))
   where
     never : (s : Step) → ◌≡◌ {A = Option Step} None (Some s) → ⊥
@@ -38,4 +38,4 @@ pub returns-in_default-2 : goal.returns-in_default-2
 returns-in_default-2 c =
     c.requires.units
     ∙ ap (splits_along (game_model c.args.played.now.game))
-    (sym (first_is c.args.played.now (length c.args.weights.now) c.item-history.result.now c.requires.below c.item-history.ensures c.in_default.is-0))
+    (sym (first_is c.args.played.now (length c.args.weights.now) c.item-history.result.now c.item-history.ensures c.in_default.is-0))

@@ -17,26 +17,26 @@ multiplied-requires-clause-weight c =
 
 pub multiplied-requires-clause-size : goal.multiplied-requires-clause-size
 multiplied-requires-clause-size c =
-    let f : FitsSigned w32 c.payoff_at-payoff.result = search rules in
+    let f : FitsSigned w32 c.payoff-payoff.result = search rules in
     let s = shared_at c.args.played.now c.args.id.0 c.requires.there in
     simp to_z-of_z
     (subst (λ z. unsigned_abs z ≤ 2 ^ 64)
-    (sym (share_is c.args.played.now c.args.id.0 c.item-history.result.now c.payoff_at-payoff.result c.chance.result c.args.weight c.as_slice.result.now c.requires.there c.item-history.ensures c.as_slice.ensures c.payoff_at-payoff.ensures c.chance.ensures c.requires.weight))
+    (sym (share_is c.args.played.now c.args.id.0 c.payoff-payoff.result c.chance.result c.args.weight c.requires.there c.payoff-payoff.ensures c.chance.ensures c.requires.weight))
     s.share)
 
 pub returns-clause-share : goal.returns-clause-share
 returns-clause-share c =
     let f : FitsSigned w128 c.multiplied.result = search rules in
-    let k : FitsSigned w32 c.payoff_at-payoff.result = search rules in
+    let k : FitsSigned w32 c.payoff-payoff.result = search rules in
     simp to_z-of_z (simp to_z-of_z at c.multiplied.ensures
-    ∙ share_is c.args.played.now c.args.id.0 c.item-history.result.now c.payoff_at-payoff.result c.chance.result c.args.weight c.as_slice.result.now c.requires.there c.item-history.ensures c.as_slice.ensures c.payoff_at-payoff.ensures c.chance.ensures c.requires.weight)
+    ∙ share_is c.args.played.now c.args.id.0 c.payoff-payoff.result c.chance.result c.args.weight c.requires.there c.payoff-payoff.ensures c.chance.ensures c.requires.weight)
 
 pub returns-clause-size : goal.returns-clause-size
 returns-clause-size c =
     let f : FitsSigned w128 c.multiplied.result = search rules in
-    let k : FitsSigned w32 c.payoff_at-payoff.result = search rules in
+    let k : FitsSigned w32 c.payoff-payoff.result = search rules in
     let s = shared_at c.args.played.now c.args.id.0 c.requires.there in
     simp to_z-of_z (subst (λ z. unsigned_abs z ≤ 2 ^ 64)
     (sym (simp to_z-of_z at c.multiplied.ensures
-    ∙ share_is c.args.played.now c.args.id.0 c.item-history.result.now c.payoff_at-payoff.result c.chance.result c.args.weight c.as_slice.result.now c.requires.there c.item-history.ensures c.as_slice.ensures c.payoff_at-payoff.ensures c.chance.ensures c.requires.weight))
+    ∙ share_is c.args.played.now c.args.id.0 c.payoff-payoff.result c.chance.result c.args.weight c.requires.there c.payoff-payoff.ensures c.chance.ensures c.requires.weight))
     s.share)

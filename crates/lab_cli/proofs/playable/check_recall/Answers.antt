@@ -1,6 +1,6 @@
 use Rattle.lab_world.specs.Games.{game_model}
 use Rattle.lab_cli.proofs.FaultLemmas.{recall_denied}
-use Rattle.lab_cli.proofs.playable.recalled_game.Goals as goal
+use Rattle.lab_cli.proofs.playable.check_recall.Goals as goal
 
 pub returns-in-Err-clause-refused : goal.returns-in-Err-clause-refused
 returns-in-Err-clause-refused c =
