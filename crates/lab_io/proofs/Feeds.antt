@@ -1,6 +1,7 @@
 -- Bytes with no line feed, and the byte where a line ends.
-use Rattle.std.proofs.Common.{◌≡◌, ℕ, zero, suc, Option, Some, None, inl, inr, sym, ◌+◌, ◌≤◌, ◌<◌, ◌∙◌, slice_index, ◌++◌, Bool, List, [], ◌∷◌, ◌==◌, not, true, false, cond, IsTrue, length, take, drop, append_assoc, length-append, refl, arith}
+use Rattle.std.proofs.Common.{◌≡◌, ◌≢◌, ℕ, zero, suc, Option, Some, None, inl, inr, sym, ◌+◌, ◌≤◌, ◌<◌, ◌∙◌, slice_index, ◌++◌, Bool, List, [], ◌∷◌, ◌==◌, not, true, false, cond, IsTrue, length, take, drop, append_assoc, length-append, refl, arith}
 use Rattle.std.proofs.Math.Numerals.{one-add}
+use Rattle.std.proofs.Math.Seq.{take-length}
 use Rattle.std.proofs.lemmas.Bool.{and_from, and_parts, cases_Bool}
 use Rattle.std.proofs.lemmas.List.{take-append-le, take-append-drop, length-take-le}
 use Rattle.std.proofs.lemmas.List.Folds.{list_all-append, length-prefix_len}
@@ -79,3 +80,13 @@ IsLine-grown line ahead count whole before fits =
       unended = no_feed-grown line ahead count whole.unended before;
       short = rw (length-append, length-take-le) fits;
     }
+
+-- bytes with a line feed are some bytes
+pub some_feed : (bytes : List ℕ) → IsTrue (not (no_feed bytes)) → bytes ≢ []
+some_feed bytes feed none = let with_feed = rw none at feed in cc
+
+-- bytes with a line feed have not all become part of a line
+pub feed_left : (line ahead : List ℕ) (count : ℕ) → IsTrue (not (no_feed ahead)) → IsTrue (no_feed (line ++ take count ahead)) → ¬ (count ≡ length ahead)
+feed_left line ahead count feed none all =
+    let parts = and_parts (no_feed line) (no_feed ahead) (rw (all, take-length, list_all-append) at none) in
+    let taken = parts.1 in cc

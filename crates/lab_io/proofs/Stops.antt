@@ -1,5 +1,5 @@
 -- What a reader has taken where it stops, and why it stops at a byte past the limit or the allowance.
-use Rattle.std.proofs.Common.{◌≡◌, ℕ, ◌+◌, ◌<◌, ◌≤◌, ◌++◌, List, IsTrue, length, length-append, sym, subst, arith, ap, min}
+use Rattle.std.proofs.Common.{◌≡◌, ℕ, ◌+◌, ◌<◌, ◌≤◌, ◌++◌, List, IsTrue, length, length-append, sym, subst, arith, min}
 use Rattle.std.proofs.lemmas.List.{get_or-append-add}
 use Rattle.std.specs.declared.option.Option.{Option}
 use Rattle.lab_io.proofs.Feeds.{IsBefore, no_feed-front}
@@ -11,7 +11,7 @@ pub StoppedAfter-given : {a b : List ℕ} {l m : Option (List ℕ)} {given : Lis
 StoppedAfter-given {a} {b} {l} {m} {given} {allowance} Why p paid short why = record {
   taken = p.taken;
   consumed = p.consumed;
-  within = omega (arith, simp length-append at (ap length p.split));
+  within = rw (p.split, length-append) (omega arith);
   why = subst Why (sym p.split) why;
 }
 

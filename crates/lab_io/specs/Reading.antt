@@ -22,11 +22,11 @@ pub record Takes (ahead_old : List ℕ) (left_old : Option (List ℕ)) (ahead_ne
   pub consumed : Consumes left_old left_new taken
   pub split : ahead_old ++ taken ≡ given ++ ahead_new
 
--- a fact holds of the bytes that a stop was at: those read ahead and some then taken from the source, at most a buffer past the allowance
+-- a fact holds of the bytes that a stop was at: those read ahead and some then taken from the source, together at most a buffer past the allowance
 pub record StoppedAfter (ahead : List ℕ) (old new : Option (List ℕ)) (allowance : ℕ) (Why : List ℕ → Type 0) : Type 0 where
   pub taken : List ℕ
   pub consumed : Consumes old new taken
-  pub within : length taken ≤ allowance + READ_AHEAD
+  pub within : length (ahead ++ taken) ≤ allowance + READ_AHEAD
   pub why : Why (ahead ++ taken)
 
 -- whether no byte is a line feed

@@ -117,6 +117,22 @@ mod tests {
         Ok(())
     }
 
+    #[test]
+    fn gives_the_lines_that_were_read_ahead_of_a_fault(rt: HostRuntime) -> Result<(), Fail> {
+        let alloc = rt.alloc();
+        let mut bytes = Vec::new(alloc);
+        bytes.extend_from_slice(b"ab\ncd\n")?;
+        let mut source = MemSource::new(bytes, vec![in alloc; 1]?);
+        let mut reader = LineReader::start(alloc)?;
+        reader.allow(6);
+        assert_eq!(rt; reader.next(&mut source)?, Took::Line);
+        assert!(rt; reader.line() == b"ab".as_slice());
+        assert_eq!(rt; reader.next(&mut source)?, Took::Line);
+        assert!(rt; reader.line() == b"cd".as_slice());
+        assert!(rt; reader.next(&mut source) == Err(ReadStop::ReadFault));
+        Ok(())
+    }
+
     // What the first line of the bytes comes to.
     fn first_line(alloc: Global, bytes: Vec<u8>, allowance: u64) -> Result<Took, ReadStop> {
         let mut source = MemSource::new(bytes, Vec::new(alloc));

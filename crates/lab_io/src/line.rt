@@ -42,7 +42,7 @@ use crate::read_ahead::ReadAhead;
 use memchr::memchr;
 
 /// Takes the bytes of the next line into an empty one, without its line feed, and asks the source
-/// for more only where no byte is read ahead.
+/// for more only where no whole line is read ahead.
 pub fn read_line<S: Source>(
     source: &mut S,
     ahead: &mut ReadAhead,
@@ -54,6 +54,8 @@ pub fn read_line<S: Source>(
         ahead.new (S.left source.new) (given_by took line.new.items)) }
     ensures line { IfOk result (λ took. IsKept took line.new.items) }
     ensures end { result ≡ Ok Took.End → IsEnd ahead.old ahead.new (S.left source.new) }
+    ensures at_hand { IsTrue (not (no_feed ahead.old)) → source.new ≡ source.old }
+    ensures short { length ahead.new ≤ READ_AHEAD }
     ensures allowance { IfOk result (λ took. length (given_by took line.new.items) ≤ allowance) }
     ensures stop { IfErr result (λ stop.
         StoppedAfter ahead.old (S.left source.old) (S.left source.new) allowance

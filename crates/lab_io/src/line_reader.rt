@@ -8,6 +8,7 @@ ghost use Rattle.std.specs.Prelude.{
   ◌-◌,
   [],
   true,
+  not,
   IsTrue,
   length,
   drop,
@@ -27,6 +28,7 @@ ghost use Rattle.lab_io.specs.Reading.{
   IsKept,
   IsEnd,
   given_by,
+  no_feed,
 };
 
 use crate::line::read_line;
@@ -154,8 +156,9 @@ impl LineReader {
         self.allowance -= count as u64;
     }
 
-    /// Takes the next line, or finds the end of input where a line would begin. Where the reader
-    /// stops with an error, what it had taken is lost: at most a buffer past the allowance.
+    /// Takes the next line, or finds the end of input where a line would begin. It asks the source for
+    /// more only where no whole line is read ahead. Where the reader stops with an error, what it had
+    /// taken is lost: at most a buffer past the allowance.
     pub fn next<S: Source>(&mut self, source: &mut S) -> Result<Took, ReadStop>
         requires { IsTrue self.old.live }
         ensures bytes { IfOk result (λ took. Takes self.old.ahead (S.left source.old)
@@ -163,6 +166,8 @@ impl LineReader {
         ensures line { IfOk result (λ took. IsKept took self.new.line) }
         ensures end { result ≡ Ok Took.End →
             IsEnd self.old.ahead self.new.ahead (S.left source.new) }
+        ensures at_hand { IsTrue (not (no_feed self.old.ahead)) → source.new ≡ source.old }
+        ensures short { length self.new.ahead ≤ READ_AHEAD }
         ensures allowance { IfOk result (λ took.
             self.new.allowance + length (given_by took self.new.line) ≡ self.old.allowance) }
         ensures stop { IfErr result (λ stop.

@@ -1,6 +1,6 @@
 //! Bytes that were read ahead of those given, in a buffer of fixed length.
 
-ghost use Rattle.std.specs.Prelude.{◌≡◌, ◌≤◌, [], drop, length, IfOk, OnOk, OnErr};
+ghost use Rattle.std.specs.Prelude.{◌≡◌, ◌≢◌, ◌≤◌, [], drop, length, IfOk, OnOk, OnErr};
 ghost use Rattle.std.specs.Io.KnownBytes.{IsAtEnd};
 ghost use Rattle.lab_io.specs.Causes.{HasCause};
 ghost use Rattle.lab_io.specs.Reading.{Takes};
@@ -62,12 +62,14 @@ impl ReadAhead {
     }
 
     /// Reads once where there are no bytes, and answers how many there are then: none only at the
-    /// end of the source.
+    /// end of the source. Where there are some, it leaves them and the source as they were.
     pub fn fill<S: Source>(&mut self, source: &mut S) -> Result<usize, Failed>
         ensures bytes { Takes self.old (S.left source.old) self.new (S.left source.new) [] }
         ensures count { IfOk result (λ n. n ≡ length self.new) }
         ensures end { IfOk result (λ n. n ≡ 0 → IsAtEnd (S.left source.new)) }
         ensures short { length self.new ≤ READ_AHEAD }
+        ensures same_ahead { self.old ≢ [] → self.new ≡ self.old }
+        ensures same_source { self.old ≢ [] → source.new ≡ source.old }
         ensures none { OnErr result (self.new ≡ []) }
         ensures cause { HasCause (S.faults source.old) (S.faults source.new) result }
         ensures no_fault { OnOk result (S.faults source.new ≡ S.faults source.old) }

@@ -1,7 +1,8 @@
 -- Where the reader stops, it has taken the line so far and what is read ahead.
-use Rattle.std.proofs.Common.{◌<◌, arith, length}
+use Rattle.std.proofs.Common.{◌≡◌, ◌≢◌, ◌<◌, ◌∙◌, [], arith, length}
 use Rattle.std.proofs.lemmas.Grind.{common_steps}
 use Rattle.std.proofs.lemmas.Result.{err_from_is_err_and}
+use Rattle.lab_io.proofs.Feeds.{some_feed, feed_left}
 use Rattle.lab_io.proofs.Givings.{Takes-ahead, Takes-more, Takes-line}
 use Rattle.lab_io.proofs.Stops.{StoppedAfter-given}
 use Rattle.lab_io.proofs.line.read_line.Goals as goal
@@ -24,5 +25,12 @@ loop-ready-preserved g c = record {
   within = grind (arith, common_steps);
   whole = c.in_ok-count.ensures.line;
   no_fault = grind (arith, common_steps);
+  at_hand = λ feed.
+      let same = c.loop-ready.invariant.at_hand feed in
+      let some : c.loop-ready.ahead ≢ [] = rw same.1 (some_feed c.args.ahead.now feed) in
+      let kept : c.fill.new.self ≡ c.args.ahead.now = c.in-Ok.ensures.same_ahead some ∙ same.1 in
+      let none = rw (c.in_ok-count.ensures.items, c.bytes.ensures.bytes, kept) at c.in_ok-count.ensures.line.unended in
+      let all : c.in_ok-count.count ≡ length c.args.ahead.now = grind (arith, common_steps) in
+      absurd (feed_left c.loop-ready.line.items c.args.ahead.now c.in_ok-count.count feed none all);
   given = rw (c.skip-in-loop-ready.ensures, c.in_ok-count.ensures.items, c.bytes.ensures.bytes) (Takes-more c.in_ok-count.count (Takes-ahead c.loop-ready.invariant.given c.in-Ok.ensures.bytes));
 }
