@@ -1,237 +1,248 @@
--- What a run tells, by how it ended.
-use Rattle.std.proofs.Common.{◌≡◌, ◌≢◌, ℕ, Bool, true, false, List, [], ◌∷◌, ◌++◌, Option, None, Some, IfSome, Result, Ok, Err, refl, sym, ap, subst, ◌∙◌, append-nil, inl, inr, ◌⊎◌}
-use Rattle.std.specs.Prelude.{IsTrue, not}
-use Rattle.std.specs.Global.{Vec}
-use Rattle.std.specs.Io.KnownBytes.{Appends}
+-- What a run has read and written, by its status.
+use Rattle.std.proofs.Common.{◌≡◌, ◌≢◌, ℕ, ◌+◌, ◌≤◌, Bool, true, false, List, [], ◌++◌, Option, None, Some, IfSome, Result, Ok, Err, refl, sym, ap, subst, ◌∙◌, append-nil, inl, inr, ◌⊎◌, arith}
+use Rattle.std.specs.Prelude.{IsTrue}
+use Rattle.std.specs.Io.KnownBytes.{IsAtEnd, Appends}
+use Rattle.std.proofs.KnownBytes.{Appends-trans}
 use Rattle.lab_io.specs.Causes.{Rose}
 use Rattle.lab_defs_text.specs.Words.{Bytes}
 use Rattle.lab_defs_report.specs.Answers.{Answer, answer}
-use Rattle.lab_defs_report.specs.Modes.{Mode, usage_line}
+use Rattle.lab_defs_report.specs.Cuts.{game_limit, commands_limit}
 use Rattle.lab_defs_report.specs.Laws.{IsFront}
-use Rattle.lab_defs_report.specs.Reports.{built_answer, built_mode, report_of, replies_of, is_refused}
-use Rattle.lab_defs_report.proofs.FrontLemmas.{Stays, answer_stays}
+use Rattle.lab_defs_report.specs.Modes.{Mode, this_program, mode_in, mode_answer, is_refused_in, usage_line}
+use Rattle.lab_defs_report.proofs.FrontLemmas.{answer_stays}
+use Rattle.lab_input.specs.Stops.{line_of}
+use Rattle.lab_input.specs.declared.stop.Stop.{Stop}
+use Rattle.lab_input.specs.declared.stop.Stop.TheVariants as stop
+use Rattle.lab_input.proofs.CallerLemmas.{rose_earlier}
 use Rattle.lab_cli.specs.declared.status.Status.{Status}
 use Rattle.lab_cli.specs.declared.status.Status.TheVariants.{Done, BadWords, Refused, Memory, ReadFault, WriteFault}
-use Rattle.lab_cli.specs.declared.stop.Stop.{Stop}
-use Rattle.lab_cli.specs.declared.stop.Stop.TheVariants as stop
-use Rattle.lab_cli.specs.Runs.{EndsAs, Tells, IsAnswer}
-use Rattle.lab_cli.specs.Stops.{Says, Found, Advances}
-use Rattle.lab_cli.specs.Writes.{Writes, answer_text, answer_status}
+use Rattle.lab_cli.specs.Answering.{Answered}
+use Rattle.lab_cli.specs.Finishes.{Finishes, WritesLine}
+use Rattle.lab_cli.specs.Runs.{EndsAs, Tells, IsAnswer, IsRejection}
+use Rattle.lab_cli.proofs.AnsweredLemmas.{answered_in}
+use Rattle.lab_cli.proofs.StopLemmas.{rose_later}
+use Rattle.lab_cli.proofs.WriteLemmas.{prefix_written, whole_front, front_trans, front_after}
 
--- ---- statuses
+-- ---- all that a run has written
 
--- the status behind a piece that was written: a good one with all of it, or that of a fault, or of no memory
-abbrev pub Kind : (s good : Status) (written whole : Bytes) (R : Type 0) → Type 0
-Kind s good written whole R = ((s ≡ good) × (written ≡ whole)) ⊎ (((s ≡ WriteFault) × R) ⊎ (s ≡ Memory))
+-- what was written for bytes, read to the end of the input or not, by the status
+abbrev pub EndsIn : Status → Mode → (ended : Bool) → (taken written : Bytes) → Type 0
+EndsIn Done m ended taken written = (ended ≡ true) × (answered_in m true taken ≡ answer written)
+EndsIn BadWords m ended taken written = ⊥
+EndsIn Refused m ended taken written = answered_in m ended taken ≡ record { out = written; refuses = true }
+EndsIn Memory m ended taken written = Unit {0}
+EndsIn ReadFault m ended taken written = (ended ≡ false) × (answered_in m false taken ≡ answer written)
+EndsIn WriteFault m ended taken written = Unit {0}
 
--- no status but these three
-no_other : (s good t : Status) (written whole : Bytes) (R : Type 0) → Kind s good written whole R → good ≢ t → WriteFault ≢ t → Memory ≢ t → s ≢ t
-no_other s good t written whole R (inl p) a b c e = a (sym p.0 ∙ e)
-no_other s good t written whole R (inr (inl p)) a b c e = b (sym p.0 ∙ e)
-no_other s good t written whole R (inr (inr p)) a b c e = c (sym p ∙ e)
+-- a run in a mode, whose refusal was written too
+record Wrote (m : Mode) (s : Status) (left before after : Option Bytes) (taken : Bytes) : Type 0 where
+  ended : Bool
+  at_end : IsTrue ended → IsAtEnd left
+  written : Bytes
+  appended : Appends before after written
+  front : IsFront written (answered_in m ended taken).out
+  ends : EndsIn s m ended taken written
 
--- a fault of the sink has its cause
-fault_cause : (s good : Status) (written whole : Bytes) (R : Type 0) → Kind s good written whole R → good ≢ WriteFault → s ≡ WriteFault → R
-fault_cause s good written whole R (inl p) a e = absurd (a (sym p.0 ∙ e))
-fault_cause s good written whole R (inr (inl p)) a e = p.1
-fault_cause s good written whole R (inr (inr p)) a e = let same : Memory ≡ WriteFault = sym p ∙ e in absurd cc
+-- an answer without a refusal is all of the report
+answer_front : (a : Answer) (written : Bytes) → a ≡ answer written → IsFront written a.out
+answer_front a written h = whole_front written a.out (ap (λ (x : Answer). x.out) h)
 
-ends_as : (s good : Status) (ws : List Bytes) (input written whole : Bytes) (R : Type 0) → Kind s good written whole R → (written ≡ whole → EndsAs good ws input written) → EndsAs s ws input written
-ends_as s good ws input written whole R (inl p) h = subst (λ x. EndsAs x ws input written) (sym p.0) (h p.1)
-ends_as s good ws input written whole R (inr (inl p)) h = subst (λ x. EndsAs x ws input written) (sym p.0) tt
-ends_as s good ws input written whole R (inr (inr p)) h = subst (λ x. EndsAs x ws input written) (sym p) tt
+-- nothing more was written
+wrote_no_more : (m : Mode) (s good : Status) (left a b c : Option Bytes) (taken : Bytes) (ended : Bool) (written : Bytes) → (IsTrue ended → IsAtEnd left) → Appends a b written → (s ≡ good) × Appends b c []
+    → IsFront written (answered_in m ended taken).out → EndsIn good m ended taken written → Wrote m s left a c taken
+wrote_no_more m s good left a b c taken ended written e p f front h = record {
+  ended = ended;
+  at_end = e;
+  written = written;
+  appended = subst (Appends a c) (append-nil written) (Appends-trans a b c written [] p f.1);
+  front = front;
+  ends = subst (λ x. EndsIn x m ended taken written) (sym f.0) h;
+}
 
--- the status of an answer that was written whole: by whether it is refused
-abbrev pub IsStatusOf : Status → Answer → Type 0
-IsStatusOf Done a = a.refuses ≡ false
-IsStatusOf Refused a = a.refuses ≡ true
-IsStatusOf _ a = ⊥
+-- the line of a refusal was written, or a prefix of it
+wrote_refusal : (m : Mode) (s : Status) (left a b c : Option Bytes) (taken : Bytes) (ended : Bool) (written line : Bytes) → (IsTrue ended → IsAtEnd left) → Appends a b written
+    → answered_in m ended taken ≡ record { out = written ++ line; refuses = true } → WritesLine line Refused b c s → Wrote m s left a c taken
+wrote_refusal m s left a b c taken ended written line e p h (inl f) = record {
+  ended = ended;
+  at_end = e;
+  written = written ++ line;
+  appended = Appends-trans a b c written line p f.1;
+  front = whole_front (written ++ line) (answered_in m ended taken).out (ap (λ (x : Answer). x.out) h);
+  ends = subst (λ x. EndsIn x m ended taken (written ++ line)) (sym f.0) h;
+}
+wrote_refusal m s left a b c taken ended written line e p h (inr f) =
+    let begun = prefix_written b c line f.1 in
+    record {
+      ended = ended;
+      at_end = e;
+      written = written ++ begun.0;
+      appended = Appends-trans a b c written begun.0 p begun.1;
+      front = front_trans (written ++ begun.0) (written ++ line) (answered_in m ended taken).out (front_after written begun.0 line begun.2)
+          (whole_front (written ++ line) (answered_in m ended taken).out (ap (λ (x : Answer). x.out) h));
+      ends = subst (λ x. EndsIn x m ended taken (written ++ begun.0)) (sym f.0) tt;
+    }
 
--- an answer that is known does not end with a fault of the source
-known_no_fault : (s good : Status) (a : Answer) (written whole : Bytes) (R : Type 0) → Kind s good written whole R → IsStatusOf good a → s ≢ ReadFault
-known_no_fault s good a written whole R k h = no_other s good ReadFault written whole R k (λ e. subst (λ x. IsStatusOf x a) e h) (λ x. cc) (λ x. cc)
+-- an input that was answered, and the end of its run
+wrote : (m : Mode) (r : Result (Unit {0}) Stop) (s : Status) (limit : ℕ) (l n a b c : Option Bytes) → (h : Answered (answered_in m) limit [] l n a b r) → Finishes r b c s → Wrote m s n a c h.taken
+wrote m (Ok x) s limit l n a b c h f =
+    let said : answered_in m h.ended h.taken ≡ answer h.written = ap (λ e. answered_in m e h.taken) h.ends.0 ∙ h.ends.1 in
+    wrote_no_more m s Done n a b c h.taken h.ended h.written h.at_end h.appended f (answer_front _ h.written said) h.ends
+wrote m (Err (stop.Refused kept)) s limit l n a b c h f = wrote_refusal m s n a b c h.taken h.ended h.written (line_of kept) h.at_end h.appended h.ends f
+wrote m (Err stop.ReadFault) s limit l n a b c h f =
+    wrote_no_more m s ReadFault n a b c h.taken false h.written (λ e. absurd cc) h.appended f (answer_front _ h.written h.ends) (refl, h.ends)
+wrote m (Err stop.WriteFault) s limit l n a b c h f = wrote_no_more m s WriteFault n a b c h.taken h.ended h.written h.at_end h.appended f h.ends tt
+wrote m (Err stop.Memory) s limit l n a b c h f = wrote_no_more m s Memory n a b c h.taken h.ended h.written h.at_end h.appended f h.ends tt
 
--- ---- reports
+-- ---- the whole input
 
--- the bytes that were read are known by whether the source was read to its end
-at_end_by : (ended : Bool) (left : Bytes) (refuses : Bool) → (IsTrue ended → left ≡ []) → (IsTrue (not ended) → refuses ≡ true) → refuses ≡ false → left ≡ []
-at_end_by true left refuses e h r = e refl
-at_end_by false left refuses e h r = let no : true ≡ false = sym (h refl) ∙ r in absurd cc
+-- a prefix of what the bytes that were read are answered with is one of the whole report
+front_of_whole : (m : Mode) (ended : Bool) (taken left written : Bytes) → (IsTrue ended → left ≡ []) → IsFront written (answered_in m ended taken).out → IsFront written (answered_in m true (taken ++ left)).out
+front_of_whole m true taken left written e f = subst (λ x. IsFront written (answered_in m true x).out) (sym (ap (λ x. taken ++ x) (e refl) ∙ append-nil taken)) f
+front_of_whole m false taken left written e f = front_trans written _ _ f (answer_stays this_program true (Some m) taken left).front
 
-stays_known : (a b c : Answer) → Stays b c → b ≡ a → a.refuses ≡ true → c ≡ a
-stays_known a b c (inl e) s r = let no : false ≡ true = ap (λ (x : Answer). x.refuses) (sym e ∙ s) ∙ r in absurd cc
-stays_known a b c (inr e) s r = e ∙ s
+-- and, where some bytes were not read, of the replies to those that were
+front_of_replies : (m : Mode) (ended : Bool) (taken left written : Bytes) → (IsTrue ended → left ≡ []) → IsFront written (answered_in m ended taken).out → left ≢ [] → IsFront written (answered_in m false taken).out
+front_of_replies m true taken left written e f some = absurd (some (e refl))
+front_of_replies m false taken left written e f some = f
 
--- the answer to the whole input
-whole_answer : (m : Option Mode) (taken left : Bytes) (a : Answer) (ended : Bool) → (IsTrue ended → left ≡ []) → built_answer ended taken m ≡ a → (IsTrue (not ended) → a.refuses ≡ true)
-    → built_answer true (taken ++ left) m ≡ a
-whole_answer m taken left a true e s h = ap (λ x. built_answer true x m) (ap (λ x. taken ++ x) (e refl) ∙ append-nil taken) ∙ s
-whole_answer m taken left a false e s h = stays_known a (built_answer false taken m) (built_answer true (taken ++ left) m) (answer_stays true m taken left) s (h refl)
+-- a refusal of the bytes that were read is one of the whole input
+whole_refused : (m : Mode) (ended : Bool) (taken left : Bytes) (a : Answer) → (IsTrue ended → left ≡ []) → answered_in m ended taken ≡ a → a.refuses ≡ true → answered_in m true (taken ++ left) ≡ a
+whole_refused m true taken left a e h r = ap (answered_in m true) (ap (λ x. taken ++ x) (e refl) ∙ append-nil taken) ∙ h
+whole_refused m false taken left a e h r = (answer_stays this_program true (Some m) taken left).refusal (ap (λ (x : Answer). x.refuses) h ∙ r) ∙ h
 
--- the answer to the bytes that were taken, where some were left
-early_answer : (m : Option Mode) (taken left : Bytes) (a : Answer) (ended : Bool) → (IsTrue ended → left ≡ []) → built_answer ended taken m ≡ a → left ≢ [] → built_answer false taken m ≡ a
-early_answer m taken left a true e s n = absurd (n (e refl))
-early_answer m taken left a false e s n = s
+-- how the run of words of a mode ends
+ends_as : (ws : List Bytes) (m : Mode) (s : Status) (ended : Bool) (taken left written : Bytes) → mode_in this_program ws ≡ Some m → (IsTrue ended → left ≡ []) → EndsIn s m ended taken written
+    → EndsAs s ws taken left written
+ends_as ws m Done ended taken left written e none h =
+    let whole : mode_answer this_program true (taken ++ left) (mode_in this_program ws) ≡ answer written =
+    ap (λ x. mode_answer this_program true (taken ++ left) x) e ∙ ap (answered_in m true) (ap (λ x. taken ++ x) (none h.0) ∙ append-nil taken) ∙ h.1 in
+    (sym (ap (λ (x : Answer). x.out) whole), ap (λ (x : Answer). x.refuses) whole)
+ends_as ws m BadWords ended taken left written e none h = absurd h
+ends_as ws m Refused ended taken left written e none h =
+    let whole : mode_answer this_program true (taken ++ left) (mode_in this_program ws) ≡ record { out = written; refuses = true } =
+    ap (λ x. mode_answer this_program true (taken ++ left) x) e ∙ whole_refused m ended taken left _ none h refl in
+    (sym (ap (λ (x : Answer). x.out) whole), ap (λ (x : Answer). x.refuses) whole)
+ends_as ws m Memory ended taken left written e none h = tt
+ends_as ws m ReadFault ended taken left written e none h = ap (λ x. mode_answer this_program false taken x) e ∙ h.1
+ends_as ws m WriteFault ended taken left written e none h = tt
 
-ends_good : (good : Status) (a : Answer) (ws : List Bytes) (input written : Bytes) → IsStatusOf good a → built_answer true input (built_mode ws) ≡ a → written ≡ a.out → EndsAs good ws input written
-ends_good Done a ws input written h e w = (w ∙ ap (λ (x : Answer). x.out) (sym e), ap (λ (x : Answer). x.refuses) e ∙ h)
-ends_good Refused a ws input written h e w = (w ∙ ap (λ (x : Answer). x.out) (sym e), ap (λ (x : Answer). x.refuses) e ∙ h)
-ends_good BadWords a ws input written h e w = absurd h
-ends_good Memory a ws input written h e w = absurd h
-ends_good ReadFault a ws input written h e w = absurd h
-ends_good WriteFault a ws input written h e w = absurd h
-
-front_of_same : (written out other : Bytes) → IsFront written out → other ≡ out → IsFront written other
-front_of_same written out other f e = (f.0, e ∙ f.1)
-
--- a refused answer is not done
-done_reads_all : (s good : Status) (a : Answer) (written : Bytes) (R : Type 0) (left : Bytes) → Kind s good written a.out R → IsStatusOf good a → (a.refuses ≡ false → left ≡ []) → s ≡ Done → left ≡ []
-done_reads_all s good a written R left (inl p) h f e = f (subst (λ x. IsStatusOf x a) (sym p.0 ∙ e) h)
-done_reads_all s good a written R left (inr (inl p)) h f e = let no : WriteFault ≡ Done = sym p.0 ∙ e in absurd cc
-done_reads_all s good a written R left (inr (inr p)) h f e = let no : Memory ≡ Done = sym p ∙ e in absurd cc
+-- a run that is done has read all
+done_ended : (m : Mode) (s : Status) (ended : Bool) (taken written : Bytes) → EndsIn s m ended taken written → s ≡ Done → IsTrue ended
+done_ended m s ended taken written h e = (subst (λ x. EndsIn x m ended taken written) e h).0
 
 -- ---- what a run tells
 
-report_no_mode : (ws : List Bytes) (input : Bytes) → built_mode ws ≡ None → report_of ws input ≡ usage_line
-report_no_mode ws input e = rw (report_of, e) refl
-
-replies_no_mode : (ws : List Bytes) (input : Bytes) → built_mode ws ≡ None → replies_of ws input ≡ usage_line
-replies_no_mode ws input e = rw (replies_of, e) refl
-
--- words that are no mode are answered with the usage line
-pub tells_rejected : (ws : List Bytes) (left before after : Option Bytes) (f k : ℕ) (s : Status) → built_mode ws ≡ None → Writes before after f k usage_line BadWords s → Tells s ws left left before after
-tells_rejected ws None before after f k s e w = tt
-tells_rejected ws (Some input) before after f k s e w = (
-  [],
-  w.written,
-  refl,
-  w.appended,
-  record {
-    front = front_of_same w.written usage_line _ w.front (report_no_mode ws ([] ++ input) e);
-    early = λ _. front_of_same w.written usage_line _ w.front (replies_no_mode ws [] e);
-    fault = λ _. front_of_same w.written usage_line _ w.front (replies_no_mode ws [] e);
-    ends = ends_as s BadWords ws ([] ++ input) w.written usage_line _ w.kind (λ _. tt);
-    to_the_end = λ d. absurd (no_other s BadWords Done w.written usage_line _ w.kind (λ x. cc) (λ x. cc) (λ x. cc) d);
-  },
-)
-
--- an answer that is known of the bytes that were taken
-tells_known : (ws : List Bytes) (m : Mode) (l n before after : Option Bytes) (f k : ℕ) (s good : Status) (a : Answer) → built_mode ws ≡ Some m → Found (Some m) l n a → IsStatusOf good a
-    → Writes before after f k a.out good s → Tells s ws l n before after
-tells_known ws m None n before after f k s good a e h st w = tt
-tells_known ws m (Some input) None before after f k s good a e h st w = elim h.consumed [ ]
-tells_known ws m (Some input) (Some left) before after f k s good a e h st w =
-    let whole : built_answer true (h.taken ++ left) (built_mode ws) ≡ a = rw e (whole_answer (Some m) h.taken left a h.ended h.at_end h.same h.early) in (
+-- of an input that was answered in the mode that the words name
+pub tells_answered : (ws : List Bytes) (m : Mode) (r : Result (Unit {0}) Stop) (s : Status) (l n a b c : Option Bytes) → mode_in this_program ws ≡ Some m
+    → Answered (answered_in m) (game_limit + commands_limit) [] l n a b r → Finishes r b c s → Tells s ws l n a c
+tells_answered ws m r s None n a b c e h f = tt
+tells_answered ws m r s (Some input) None a b c e h f = elim h.consumed [ ]
+tells_answered ws m r s (Some input) (Some left) a b c e h f =
+    let w = wrote m r s (game_limit + commands_limit) (Some input) (Some left) a b c h f in (
       h.taken,
       w.written,
       h.consumed,
       w.appended,
       record {
-        front = front_of_same w.written a.out _ w.front (ap (λ (x : Answer). x.out) whole);
-        early = λ some. front_of_same w.written a.out _ w.front
-            (ap (λ (x : Answer). x.out) (ap (built_answer false h.taken) e ∙ early_answer (Some m) h.taken left a h.ended h.at_end h.same some));
-        fault = λ d. absurd (known_no_fault s good a w.written a.out _ w.kind st d);
-        ends = ends_as s good ws (h.taken ++ left) w.written a.out _ w.kind (ends_good good a ws (h.taken ++ left) w.written st whole);
-        to_the_end = done_reads_all s good a w.written _ left w.kind st (at_end_by h.ended left a.refuses h.at_end h.early);
+        front = subst (λ x. IsFront w.written (mode_answer this_program true (h.taken ++ left) x).out) (sym e) (front_of_whole m w.ended h.taken left w.written w.at_end w.front);
+        early = λ some. subst (λ x. IsFront w.written (mode_answer this_program false h.taken x).out) (sym e) (front_of_replies m w.ended h.taken left w.written w.at_end w.front some);
+        ends = ends_as ws m s w.ended h.taken left w.written e w.at_end w.ends;
+        to_the_end = λ d. w.at_end (done_ended m s w.ended h.taken w.written w.ends d);
+        within = h.within;
       },
     )
 
-nothing_front : (written whole : Bytes) → IsFront written [] → IsFront written whole
-nothing_front [] whole f = (whole, refl)
-nothing_front (c ∷ cs) whole f = absurd cc
+-- the usage line was written, or a prefix of it
+rejected : (b c : Option Bytes) (s : Status) → WritesLine usage_line BadWords b c s → (written : Bytes) × Appends b c written × IsFront written usage_line × ((s ≡ BadWords) ⊎ (s ≡ WriteFault))
+rejected b c s (inl f) = (usage_line, f.1, whole_front usage_line usage_line refl, inl f.0)
+rejected b c s (inr f) = let begun = prefix_written b c usage_line f.1 in (begun.0, begun.1, begun.2, inr f.0)
 
--- nothing was written for want of memory or of a source
-tells_nothing : (ws : List Bytes) (l n before after : Option Bytes) (f k : ℕ) (s good : Status) → Advances l n → ((input written : Bytes) → EndsAs good ws input written) → good ≢ Done
-    → Writes before after f k [] good s → Tells s ws l n before after
-tells_nothing ws None n before after f k s good h g d w = tt
-tells_nothing ws (Some input) None before after f k s good h g d w = elim h.1 [ ]
-tells_nothing ws (Some input) (Some left) before after f k s good h g d w = (
-  h.0,
-  w.written,
-  h.1,
-  w.appended,
-  record {
-    front = nothing_front w.written _ w.front;
-    early = λ _. nothing_front w.written _ w.front;
-    fault = λ _. nothing_front w.written _ w.front;
-    ends = ends_as s good ws (h.0 ++ left) w.written [] _ w.kind (λ _. g (h.0 ++ left) w.written);
-    to_the_end = λ e. absurd (no_other s good Done w.written [] _ w.kind d (λ x. cc) (λ x. cc) e);
-  },
-)
+-- of words that name no mode
+pub tells_rejected : (ws : List Bytes) (l b c : Option Bytes) (s : Status) → mode_in this_program ws ≡ None → WritesLine usage_line BadWords b c s → Tells s ws l l b c
+tells_rejected ws None b c s e w = tt
+tells_rejected ws (Some input) b c s e w =
+    let h = rejected b c s w in (
+      [],
+      h.0,
+      refl,
+      h.1,
+      record {
+        front = subst (λ x. IsFront h.0 (mode_answer this_program true input x).out) (sym e) h.2;
+        early = λ some. subst (λ x. IsFront h.0 (mode_answer this_program false [] x).out) (sym e) h.2;
+        ends = ends h.0 h.3;
+        to_the_end = λ d. absurd (not_done d h.3);
+        within = omega arith;
+      },
+    )
+  where
+    ends : (written : Bytes) → (s ≡ BadWords) ⊎ (s ≡ WriteFault) → EndsAs s ws [] input written
+    ends written (inl e) = subst (λ x. EndsAs x ws [] input written) (sym e) tt
+    ends written (inr e) = subst (λ x. EndsAs x ws [] input written) (sym e) tt
 
--- what is told of an answer that was written
-pub tells_answer : (ws : List Bytes) (m : Mode) (F : Type 0) (found : Result (Vec ℕ) Stop) (l n before after : Option Bytes) (f k : ℕ) (s : Status) → built_mode ws ≡ Some m → Says F (Found (Some m) l n) found
-    → Advances l n → Writes before after f k (answer_text found) (answer_status found) s → Tells s ws l n before after
-tells_answer ws m F (Ok out) l n before after f k s e h t w = tells_known ws m l n before after f k s Done (answer out.items) e h refl w
-tells_answer ws m F (Err (stop.Refused out)) l n before after f k s e h t w = tells_known ws m l n before after f k s Refused (record { out = out.items; refuses = true }) e h refl w
-tells_answer ws m F (Err stop.ReadFault) l n before after f k s e h t w = tells_nothing ws l n before after f k s ReadFault t (λ i x. tt) (λ x. cc) w
-tells_answer ws m F (Err stop.Memory) l n before after f k s e h t w = tells_nothing ws l n before after f k s Memory t (λ i x. tt) (λ x. cc) w
+    not_done : s ≡ Done → ¬ ((s ≡ BadWords) ⊎ (s ≡ WriteFault))
+    not_done d (inl e) = let no : Done ≡ BadWords = sym d ∙ e in absurd cc
+    not_done d (inr e) = let no : Done ≡ WriteFault = sym d ∙ e in absurd cc
+
+-- the line was written whole where the status says so
+pub line_written : (line : Bytes) (b c : Option Bytes) (s : Status) → WritesLine line BadWords b c s → s ≡ BadWords → Appends b c line
+line_written line b c s (inl f) e = f.1
+line_written line b c s (inr f) e = let no : WriteFault ≡ BadWords = sym f.0 ∙ e in absurd cc
+
+-- words that name no mode are rejected
+pub is_rejection : (line : Bytes) (b c : Option Bytes) (s : Status) → WritesLine line BadWords b c s → IsRejection s
+is_rejection line b c s (inl f) = subst IsRejection (sym f.0) tt
+is_rejection line b c s (inr f) = subst IsRejection (sym f.0) tt
+
+-- ---- the causes of statuses
+
+-- a run ends with a fault of the source where its answering does
+pub read_fault_is : (r : Result (Unit {0}) Stop) (b c : Option Bytes) (s : Status) → Finishes r b c s → s ≡ ReadFault → r ≡ Err stop.ReadFault
+read_fault_is (Ok x) b c s f e = let no : Done ≡ ReadFault = sym f.0 ∙ e in absurd cc
+read_fault_is (Err (stop.Refused kept)) b c s (inl f) e = let no : Refused ≡ ReadFault = sym f.0 ∙ e in absurd cc
+read_fault_is (Err (stop.Refused kept)) b c s (inr f) e = let no : WriteFault ≡ ReadFault = sym f.0 ∙ e in absurd cc
+read_fault_is (Err stop.ReadFault) b c s f e = refl
+read_fault_is (Err stop.WriteFault) b c s f e = let no : WriteFault ≡ ReadFault = sym f.0 ∙ e in absurd cc
+read_fault_is (Err stop.Memory) b c s f e = let no : Memory ≡ ReadFault = sym f.0 ∙ e in absurd cc
+
+-- and only there
+pub read_fault_status : (r : Result (Unit {0}) Stop) (b c : Option Bytes) (s : Status) → Finishes r b c s → r ≡ Err stop.ReadFault → s ≡ ReadFault
+read_fault_status r b c s f e = (subst (λ x. Finishes x b c s) e f).0
+
+-- a run ends with a fault of the sink where its answering does
+pub write_fault_status : (r : Result (Unit {0}) Stop) (b c : Option Bytes) (s : Status) → Finishes r b c s → r ≡ Err stop.WriteFault → s ≡ WriteFault
+write_fault_status r b c s f e = (subst (λ x. Finishes x b c s) e f).0
+
+-- words that name a mode are no bad words
+pub not_bad_words : (r : Result (Unit {0}) Stop) (b c : Option Bytes) (s : Status) → Finishes r b c s → s ≢ BadWords
+not_bad_words (Ok x) b c s f = λ e. let no : Done ≡ BadWords = sym f.0 ∙ e in absurd cc
+not_bad_words (Err (stop.Refused kept)) b c s (inl f) = λ e. let no : Refused ≡ BadWords = sym f.0 ∙ e in absurd cc
+not_bad_words (Err (stop.Refused kept)) b c s (inr f) = λ e. let no : WriteFault ≡ BadWords = sym f.0 ∙ e in absurd cc
+not_bad_words (Err stop.ReadFault) b c s f = λ e. let no : ReadFault ≡ BadWords = sym f.0 ∙ e in absurd cc
+not_bad_words (Err stop.WriteFault) b c s f = λ e. let no : WriteFault ≡ BadWords = sym f.0 ∙ e in absurd cc
+not_bad_words (Err stop.Memory) b c s f = λ e. let no : Memory ≡ BadWords = sym f.0 ∙ e in absurd cc
+
+-- a fault of the sink has its cause, in the answering or at the end
+pub write_fault_cause : (r : Result (Unit {0}) Stop) (s : Status) (f g h : ℕ) → f ≤ g → g ≤ h → (r ≡ Err stop.WriteFault → Rose f g) → (s ≡ WriteFault → r ≢ Err stop.WriteFault → Rose g h) → s ≡ WriteFault → Rose f h
+write_fault_cause (Ok x) s f g h a b before after e = rose_earlier f g h a (after e (λ d. cc))
+write_fault_cause (Err (stop.Refused kept)) s f g h a b before after e = rose_earlier f g h a (after e (λ d. cc))
+write_fault_cause (Err stop.ReadFault) s f g h a b before after e = rose_earlier f g h a (after e (λ d. cc))
+write_fault_cause (Err stop.WriteFault) s f g h a b before after e = rose_later f g h b (before refl)
+write_fault_cause (Err stop.Memory) s f g h a b before after e = rose_earlier f g h a (after e (λ d. cc))
 
 -- ---- answers where nothing failed
 
-is_answer : (good : Status) (a : Answer) (refused : Bool) → IsStatusOf good a → refused ≡ a.refuses → IsAnswer good refused
-is_answer Done a refused h e = e ∙ h
-is_answer Refused a refused h e = e ∙ h
-is_answer BadWords a refused h e = absurd h
-is_answer Memory a refused h e = tt
-is_answer ReadFault a refused h e = absurd h
-is_answer WriteFault a refused h e = absurd h
-
-kind_answer : (s good : Status) (refused : Bool) (written whole : Bytes) (R : Type 0) → Kind s good written whole R → IsAnswer good refused → ¬ R → IsAnswer s refused
-kind_answer s good refused written whole R (inl p) h n = subst (λ x. IsAnswer x refused) (sym p.0) h
-kind_answer s good refused written whole R (inr (inl p)) h n = absurd (n p.1)
-kind_answer s good refused written whole R (inr (inr p)) h n = subst (λ x. IsAnswer x refused) (sym p) tt
-
-answers_known : (ws : List Bytes) (m : Mode) (l n before after : Option Bytes) (f k : ℕ) (F : Type 0) (s good : Status) (a : Answer) → built_mode ws ≡ Some m → Found (Some m) l n a → IsStatusOf good a
-    → Writes before after f k a.out good s → IfSome l (λ input. ¬ F → ¬ Rose f k → IsAnswer s (is_refused ws input))
-answers_known ws m None n before after f k F s good a e h st w = tt
-answers_known ws m (Some input) None before after f k F s good a e h st w = elim h.consumed [ ]
-answers_known ws m (Some input) (Some left) before after f k F s good a e h st w = λ _ r.
-    let whole : built_answer true (h.taken ++ left) (Some m) ≡ a = whole_answer (Some m) h.taken left a h.ended h.at_end h.same h.early in
-    kind_answer s good (is_refused ws input) w.written a.out (Rose f k) w.kind
-    (is_answer good a (is_refused ws input) st (ap (is_refused ws) h.consumed ∙ ap (λ (x : Answer). x.refuses) (ap (built_answer true (h.taken ++ left)) e ∙ whole))) r
-
-answers_fault : (ws : List Bytes) (l : Option Bytes) (f k : ℕ) (F : Type 0) (s : Status) → F → IfSome l (λ input. ¬ F → ¬ Rose f k → IsAnswer s (is_refused ws input))
-answers_fault ws None f k F s h = tt
-answers_fault ws (Some input) f k F s h = λ n r. absurd (n h)
-
-answers_memory : (ws : List Bytes) (l before after : Option Bytes) (f k : ℕ) (F : Type 0) (s : Status) → Writes before after f k [] Memory s → IfSome l (λ input. ¬ F → ¬ Rose f k → IsAnswer s (is_refused ws input))
-answers_memory ws None before after f k F s w = tt
-answers_memory ws (Some input) before after f k F s w = λ n r. kind_answer s Memory (is_refused ws input) w.written [] (Rose f k) w.kind tt r
-
-pub answers : (ws : List Bytes) (m : Mode) (F : Type 0) (found : Result (Vec ℕ) Stop) (l n before after : Option Bytes) (f k : ℕ) (s : Status) → built_mode ws ≡ Some m → Says F (Found (Some m) l n) found
-    → Writes before after f k (answer_text found) (answer_status found) s → IfSome l (λ input. ¬ F → ¬ Rose f k → IsAnswer s (is_refused ws input))
-answers ws m F (Ok out) l n before after f k s e h w = answers_known ws m l n before after f k F s Done (answer out.items) e h refl w
-answers ws m F (Err (stop.Refused out)) l n before after f k s e h w = answers_known ws m l n before after f k F s Refused (record { out = out.items; refuses = true }) e h refl w
-answers ws m F (Err stop.ReadFault) l n before after f k s e h w = answers_fault ws l f k F s h
-answers ws m F (Err stop.Memory) l n before after f k s e h w = answers_memory ws l before after f k F s w
-
--- the whole usage line was written where the status says so
-pub rejected : (ws : List Bytes) (before after : Option Bytes) (f k : ℕ) (s : Status) → built_mode ws ≡ None → Writes before after f k usage_line BadWords s
-    → s ≡ BadWords → (built_mode ws ≡ None) × Appends before after usage_line
-rejected ws before after f k s e w b = (e, by_kind w.kind)
+-- by whether the whole report has a refusal, or for want of memory
+pub is_answer : (ws : List Bytes) (s : Status) (l n a c : Option Bytes) (F G : Type 0) → Tells s ws l n a c → (s ≡ ReadFault → F) → (s ≡ WriteFault → G) → s ≢ BadWords
+    → IfSome l (λ input. ¬ F → ¬ G → IsAnswer s (is_refused_in this_program ws input))
+is_answer ws s None n a c F G t read write words = tt
+is_answer ws s (Some input) None a c F G t read write words = elim t [ ]
+is_answer ws s (Some input) (Some left) a c F G t read write words = λ not_read not_write.
+    subst (λ x. IsAnswer s (is_refused_in this_program ws x)) (sym t.2) (by_status s t.4.ends not_read not_write read write words)
   where
-    by_kind : Kind s BadWords w.written usage_line (Rose f k) → Appends before after usage_line
-    by_kind (inl p) = subst (Appends before after) p.1 w.appended
-    by_kind (inr (inl p)) = let same : WriteFault ≡ BadWords = sym p.0 ∙ b in absurd cc
-    by_kind (inr (inr p)) = let same : Memory ≡ BadWords = sym p ∙ b in absurd cc
-
--- an answer that was written ends as the answer does, or with a fault of the sink
-pub read_fault_cause : (F : Type 0) (P : Answer → Type 0) (found : Result (Vec ℕ) Stop) (before after : Option Bytes) (f k : ℕ) (s : Status) → Says F P found
-    → Writes before after f k (answer_text found) (answer_status found) s → s ≡ ReadFault → F
-read_fault_cause F P (Ok out) before after f k s h w e = absurd (no_other s Done ReadFault w.written _ _ w.kind (λ x. cc) (λ x. cc) (λ x. cc) e)
-read_fault_cause F P (Err (stop.Refused out)) before after f k s h w e = absurd (no_other s Refused ReadFault w.written _ _ w.kind (λ x. cc) (λ x. cc) (λ x. cc) e)
-read_fault_cause F P (Err stop.ReadFault) before after f k s h w e = h
-read_fault_cause F P (Err stop.Memory) before after f k s h w e = absurd (no_other s Memory ReadFault w.written _ _ w.kind (λ x. cc) (λ x. cc) (λ x. cc) e)
-
-pub write_fault_cause : (found : Result (Vec ℕ) Stop) (before after : Option Bytes) (f k : ℕ) (s : Status) → Writes before after f k (answer_text found) (answer_status found) s → s ≡ WriteFault → Rose f k
-write_fault_cause (Ok out) before after f k s w = fault_cause s Done w.written _ _ w.kind (λ x. cc)
-write_fault_cause (Err (stop.Refused out)) before after f k s w = fault_cause s Refused w.written _ _ w.kind (λ x. cc)
-write_fault_cause (Err stop.ReadFault) before after f k s w = fault_cause s ReadFault w.written _ _ w.kind (λ x. cc)
-write_fault_cause (Err stop.Memory) before after f k s w = fault_cause s Memory w.written _ _ w.kind (λ x. cc)
-
-pub not_bad_words : (found : Result (Vec ℕ) Stop) (before after : Option Bytes) (f k : ℕ) (s : Status) → Writes before after f k (answer_text found) (answer_status found) s → s ≢ BadWords
-not_bad_words (Ok out) before after f k s w = no_other s Done BadWords w.written _ _ w.kind (λ x. cc) (λ x. cc) (λ x. cc)
-not_bad_words (Err (stop.Refused out)) before after f k s w = no_other s Refused BadWords w.written _ _ w.kind (λ x. cc) (λ x. cc) (λ x. cc)
-not_bad_words (Err stop.ReadFault) before after f k s w = no_other s ReadFault BadWords w.written _ _ w.kind (λ x. cc) (λ x. cc) (λ x. cc)
-not_bad_words (Err stop.Memory) before after f k s w = no_other s Memory BadWords w.written _ _ w.kind (λ x. cc) (λ x. cc) (λ x. cc)
+    by_status : (s : Status) → EndsAs s ws t.0 left t.1 → ¬ F → ¬ G → (s ≡ ReadFault → F) → (s ≡ WriteFault → G) → s ≢ BadWords → IsAnswer s (is_refused_in this_program ws (t.0 ++ left))
+    by_status Done h not_read not_write read write words = h.1
+    by_status BadWords h not_read not_write read write words = absurd (words refl)
+    by_status Refused h not_read not_write read write words = h.1
+    by_status Memory h not_read not_write read write words = tt
+    by_status ReadFault h not_read not_write read write words = absurd (not_read (read refl))
+    by_status WriteFault h not_read not_write read write words = absurd (not_write (write refl))

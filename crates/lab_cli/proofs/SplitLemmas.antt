@@ -37,7 +37,7 @@ use Rattle.lab_unfold.specs.Values.{Unfolded, history_in, scale_in, step_in, ste
 use Rattle.lab_world.proofs.CallerLemmas.{horizon_small}
 use Rattle.lab_unfold.specs.Parents.{history_at, Behind}
 use Rattle.lab_unfold.proofs.CallerLemmas.{read_here, read_parent, read_root, read_step, read_chance, read_payoff, step_same, told_at, all_length, most_small}
-use Rattle.lab_cli.specs.declared.playable.Playable.{Playable}
+use Rattle.lab_input.specs.declared.playable.Playable.{Playable}
 use Rattle.lab_cli.specs.EvenSplits.{split_twice}
 
 -- ---- the grids

@@ -1,12 +1,10 @@
-pub mod Asked
+pub mod Answering
+pub mod CommandStops
 pub mod Counted
-pub mod CutLines
-pub mod GameParts
 pub mod ModeNames
 pub mod EvenSplits
-pub mod PlainLines
+pub mod Finishes
+pub mod LineReplies
 pub mod Runs
 pub mod Splits
 pub mod Statuses
-pub mod Stops
-pub mod Writes

@@ -27,7 +27,7 @@ ghost use Rattle.lab_world.specs.Games.{game_model};
 ghost use Rattle.lab_unfold.specs.Values.{step_model};
 ghost use Rattle.lab_cli.specs.EvenSplits.{split_twice};
 
-use crate::playable::Playable;
+use lab_input::Playable;
 use lab_unfold::{HistoryId, Step};
 use lab_units::{Fraction, pow_within, reduced};
 use lab_world::{Game, WorldId};

@@ -2,22 +2,15 @@
 #![tactic(auto)]
 
 mod check;
-mod commands;
 mod counts;
-mod ending;
 mod expectation;
-mod game_faults;
-mod game_part;
 mod mode;
-mod pieces;
-mod playable;
+mod output;
 mod print;
 mod program;
-mod refusals;
+mod replies;
 mod session;
 mod status;
-mod stop;
-mod text_faults;
 
 pub use program::run;
 pub use status::Status;

@@ -1,13 +1,13 @@
 //! The modes of the program, and the words that name them.
 ghost use Rattle.std.specs.Prelude.{◌≡◌, ◌∷◌, [], map, string_bytes};
 ghost use Rattle.std.specs.Option.{option_map};
-ghost use Rattle.lab_defs_report.specs.Reports.{built_mode};
+ghost use Rattle.lab_defs_report.specs.Modes.{this_program, mode_in};
 ghost use Rattle.lab_cli.specs.ModeNames.{mode_model};
 
 /// What the program does with its input.
 #[derive(Clone, Copy, Debug, PartialEq, Eq)]
 pub enum Mode {
-    /// Answers the commands behind a game.
+    /// Replies to the commands after a game.
     Session,
     /// Counts the histories, nodes and information sets of a game.
     Check,
@@ -17,7 +17,7 @@ pub enum Mode {
 
 /// The mode that words name.
 pub fn mode_of(words: &[String]) -> Option<Mode>
-    ensures { option_map mode_model result ≡ built_mode (map string_bytes words.now) }
+    ensures { option_map mode_model result ≡ mode_in this_program (map string_bytes words.now) }
 {
     match words {
         [word] => mode_named(word.as_bytes()),
@@ -27,7 +27,7 @@ pub fn mode_of(words: &[String]) -> Option<Mode>
 
 // The mode that one word names.
 fn mode_named(word: &[u8]) -> Option<Mode>
-    ensures { option_map mode_model result ≡ built_mode (word.now ∷ []) }
+    ensures { option_map mode_model result ≡ mode_in this_program (word.now ∷ []) }
 {
     if word == b"session".as_slice() {
         return Some(Mode::Session);

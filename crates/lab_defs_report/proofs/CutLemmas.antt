@@ -1,4 +1,4 @@
--- Inputs that go on: their lines, and how they are cut behind their game.
+-- Inputs that go on: their lines, and how they are cut after their game.
 use Rattle.std.proofs.Common.{◌≡◌, ◌≢◌, ℕ, ◌+◌, ◌-◌, ◌≤◌, Bool, true, false, cond, List, [], ◌∷◌, ◌++◌, length, Option, Some, None, refl, sym, ap, ◌∙◌, arith, length-append}
 use Rattle.std.specs.Prelude.{◌==◌, if◌then◌else◌}
 use Rattle.std.specs.List.{slice_split, onto_first}
@@ -59,7 +59,7 @@ lines_some xs = split_nonempty (λ c. c == 10) xs
 -- ---- cuts
 
 -- a limit that a line passes is passed by the line that goes on
-passed_more : (code k : Bytes) (left a b ended : ℕ) → a ≤ b → passed_limit code left a 0 ≡ Some k → passed_limit code left b ended ≡ Some k
+pub passed_more : (code k : Bytes) (left a b ended : ℕ) → a ≤ b → passed_limit code left a 0 ≡ Some k → passed_limit code left b ended ≡ Some k
 passed_more code k left a b ended h e = grind (arith, nat_tests)
 
 -- a cut of an input that goes on in pieces ys: what was found in its first bytes stays
@@ -68,7 +68,7 @@ GoesOn (cut_at text n behind) ys c = c ≡ cut_at text n (continued behind ys)
 GoesOn (cut_refused r) ys c = c ≡ cut_refused r
 GoesOn cut_open ys c = Unit {0}
 
--- a line with lines behind it
+-- a line that other lines follow
 pub cut_more : (ended : Bool) (n : ℕ) (text l : Bytes) (ms : List Bytes) → ms ≢ []
     → cut_from ended n text (l ∷ ms)
     ≡ or_refused n (passed_limit (codes "GameTooLong") (game_limit - length text) (length l) 1)

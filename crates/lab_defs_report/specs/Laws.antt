@@ -1,9 +1,9 @@
 -- Laws of what the program writes, and of draws.
-use Rattle.std.specs.Prelude.{◌≡◌, ℕ, suc, ◌*◌, ◌/◌, ◌^◌, ◌<◌, ◌≤◌, List, ◌++◌, length, take}
+use Rattle.std.specs.Prelude.{◌≡◌, ℕ, suc, Bool, true, false, ◌*◌, ◌/◌, ◌^◌, ◌<◌, ◌≤◌, List, ◌++◌, length, take}
 use Rattle.lab_math.specs.Sums.{sum_over}
 use Rattle.lab_defs_text.specs.Words.{Bytes}
 use Rattle.lab_defs_report.specs.Walks.{drawn}
-use Rattle.lab_defs_report.specs.Reports.{report_of, replies_of}
+use Rattle.lab_defs_report.specs.Modes.{Program, mode_in, mode_answer, report_in, replies_in}
 
 -- the first is a prefix of the second
 abbrev pub IsFront : Bytes → Bytes → Type 0
@@ -11,7 +11,13 @@ IsFront front whole = (rest : Bytes) × (whole ≡ front ++ rest)
 
 -- what is written for the first bytes of an input stays, whatever follows them
 abbrev pub FrontLaw : Type 0
-FrontLaw = (ws : List Bytes) (bytes more : Bytes) → IsFront (replies_of ws bytes) (replies_of ws (bytes ++ more)) × IsFront (replies_of ws bytes) (report_of ws (bytes ++ more))
+FrontLaw = (p : Program) (ws : List Bytes) (bytes more : Bytes)
+    → IsFront (replies_in p ws bytes) (replies_in p ws (bytes ++ more)) × IsFront (replies_in p ws bytes) (report_in p ws (bytes ++ more))
+
+-- a refusal that the first bytes of an input cause comes whatever follows them, read to the end or not, and nothing is written after it
+abbrev pub RefusalLaw : Type 0
+RefusalLaw = (p : Program) (ws : List Bytes) (ended : Bool) (bytes more : Bytes) → (mode_answer p false bytes (mode_in p ws)).refuses ≡ true
+    → mode_answer p ended (bytes ++ more) (mode_in p ws) ≡ mode_answer p false bytes (mode_in p ws)
 
 -- the weights of the first i items together
 abbrev pub running_sum : List ℕ → ℕ → ℕ

@@ -12,6 +12,5 @@ pub mod GameModes
 pub mod Sessions
 pub mod Surveys
 pub mod Modes
-pub mod Reports
 pub mod Laws
 pub mod Headline

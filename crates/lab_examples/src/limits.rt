@@ -1,11 +1,9 @@
 //! Lines and inputs up to their limits and past them.
 ghost use Rattle.std.specs.Prelude.{◌≡◌, ◌∷◌, [], Some, None, true, false};
 ghost use lib.Chars.{codes};
-ghost use Rattle.lab_defs_text.specs.Words.{lines};
 ghost use Rattle.lab_defs_report.specs.Cuts.{passed_limit};
-ghost use Rattle.lab_defs_report.specs.Sessions.{session_from};
 ghost use Rattle.lab_examples.specs.Inputs.{text};
-ghost use Rattle.lab_examples.specs.Sessions.{fork_begun};
+ghost use Rattle.lab_examples.specs.Sessions.{fork_replies};
 
 /// A line has at most 1048576 bytes before its line feed.
 pub fn a_line_of_the_most_bytes()
@@ -54,35 +52,35 @@ pub fn nothing_more()
 
 /// A command line that uses up the bytes is answered.
 pub fn a_command_of_all_the_bytes()
-    ensures { (session_from true 36 1 15 fork_begun (lines (text (codes "expect uniform" ∷ [])))).out ≡ text (codes "expect -5/6" ∷ []) }
+    ensures { fork_replies true 15 (text (codes "expect uniform" ∷ [])) ≡ text (codes "expect -5/6" ∷ []) }
 {}
 
 /// A command line that passes them is not, by its line feed or by a byte before.
 pub fn a_command_past_the_bytes()
-    ensures { (session_from true 36 1 14 fork_begun (lines (text (codes "expect uniform" ∷ [])))).out ≡ text (codes "refused 37 InputTooLong" ∷ []) }
+    ensures { fork_replies true 14 (text (codes "expect uniform" ∷ [])) ≡ text (codes "refused 37 InputTooLong" ∷ []) }
 {}
 
 /// Each line takes its bytes from those of the next.
 pub fn a_second_command_past_the_bytes()
-    ensures { (session_from true 36 1 21 fork_begun (lines (text (codes "expect uniform" ∷ codes "expect" ∷ [])))).out ≡ text (codes "expect -5/6" ∷ codes "refused 38 InputTooLong" ∷ []) }
+    ensures { fork_replies true 21 (text (codes "expect uniform" ∷ codes "expect" ∷ [])) ≡ text (codes "expect -5/6" ∷ codes "refused 38 InputTooLong" ∷ []) }
 {}
 
 /// With one byte more the second line is answered.
 pub fn a_second_command_of_all_the_bytes()
-    ensures { (session_from true 36 1 22 fork_begun (lines (text (codes "expect uniform" ∷ codes "expect" ∷ [])))).out ≡ text (codes "expect -5/6" ∷ codes "refused 38 NoBlueprint" ∷ []) }
+    ensures { fork_replies true 22 (text (codes "expect uniform" ∷ codes "expect" ∷ [])) ≡ text (codes "expect -5/6" ∷ codes "refused 38 NoBlueprint" ∷ []) }
 {}
 
 /// A line that has not ended passes them too.
 pub fn an_unfinished_line_past_the_bytes()
-    ensures { (session_from true 36 1 4 fork_begun (lines (codes "expect"))).out ≡ text (codes "refused 37 InputTooLong" ∷ []) }
+    ensures { fork_replies true 4 (codes "expect") ≡ text (codes "refused 37 InputTooLong" ∷ []) }
 {}
 
 /// Its refusal does not wait for the end of the input.
 pub fn an_unfinished_line_past_the_bytes_so_far()
-    ensures { (session_from false 36 1 4 fork_begun (lines (codes "expect"))).out ≡ text (codes "refused 37 InputTooLong" ∷ []) }
+    ensures { fork_replies false 4 (codes "expect") ≡ text (codes "refused 37 InputTooLong" ∷ []) }
 {}
 
 /// Within them nothing is written for it.
 pub fn an_unfinished_line_so_far()
-    ensures { (session_from false 36 1 6 fork_begun (lines (codes "expect"))).out ≡ [] }
+    ensures { fork_replies false 6 (codes "expect") ≡ [] }
 {}

@@ -12,7 +12,7 @@ pub struct Case<'a> {
     pub words: &'a str,
     /// The text of the game, with which the input begins.
     pub game: &'a str,
-    /// What the input has behind the game.
+    /// What the input has after the game.
     pub commands: &'a str,
     /// The number of the call of the source that fails.
     pub failing_read: Option<u64>,

@@ -117,7 +117,7 @@ fn refuses_commands(rt: HostRuntime) -> Result<(), Fail> {
 }
 
 #[test]
-fn tells_faults(rt: HostRuntime) -> Result<(), Fail> {
+fn reports_faults(rt: HostRuntime) -> Result<(), Fail> {
     let answered = session(
         PENNIES_2,
         "expect uniform\nexpect uniform\n",
@@ -127,11 +127,6 @@ fn tells_faults(rt: HostRuntime) -> Result<(), Fail> {
     let cases = [
         Case {
             failing_read: Some(0),
-            status: Status::ReadFault,
-            ..answered
-        },
-        Case {
-            failing_read: Some(1),
             status: Status::ReadFault,
             ..answered
         },
@@ -148,6 +143,67 @@ fn tells_faults(rt: HostRuntime) -> Result<(), Fail> {
         },
     ];
     run_cases(&rt, rt.alloc(), cases.as_slice())
+}
+
+// Each command is answered before more is asked for.
+#[test]
+fn replies_before_a_fault(rt: HostRuntime) -> Result<(), Fail> {
+    let answered = session(
+        PENNIES_2,
+        "expect uniform\nexpect uniform\n",
+        "expect 0/1\nexpect 0/1\n",
+        Status::Done,
+    );
+    let cases = [
+        Case {
+            failing_read: Some(1),
+            status: Status::ReadFault,
+            ..answered
+        },
+        Case {
+            commands: "expect uniform\nexpect uni",
+            output: "expect 0/1\n",
+            failing_read: Some(1),
+            status: Status::ReadFault,
+            ..answered
+        },
+        Case {
+            output: "expect 0/1\n",
+            failing_write: Some(1),
+            status: Status::WriteFault,
+            ..answered
+        },
+        Case {
+            commands: "expect uniform\nbound x\nexpect uniform\n",
+            output: "expect 0/1\nrefused 22 BadNumber 2\n",
+            failing_read: Some(1),
+            status: Status::Refused,
+            ..answered
+        },
+    ];
+    run_cases(&rt, rt.alloc(), cases.as_slice())
+}
+
+#[test]
+fn refuses_long_commands(rt: HostRuntime) -> Result<(), Fail> {
+    let alloc = rt.alloc();
+    let longest = format!(in alloc; "{}\n", "x".repeat(alloc, 1_048_576)?)?;
+    let longer = format!(in alloc; "x{longest}")?;
+    let cases = [
+        session(
+            PENNIES_2,
+            longest.as_str(),
+            "refused 21 BadWord 1\n",
+            Status::Refused,
+        ),
+        session(
+            PENNIES_2,
+            longer.as_str(),
+            "refused 21 LineTooLong\n",
+            Status::Refused,
+        ),
+    ];
+    run_cases(&rt, alloc, cases.as_slice())
 }
 
 #[test]

@@ -1,50 +1,48 @@
-use Rattle.std.proofs.Common.{Some, sym, ap, ◌∙◌, subst}
-use Rattle.lab_defs_report.specs.GameModes.{playable}
-use Rattle.lab_defs_report.specs.Modes.{check}
+use Rattle.std.proofs.Common.{sym, ap, ◌∙◌, subst}
+use Rattle.lab_defs_report.specs.GameModes.{playable, counts_line}
 use Rattle.lab_world.specs.Games.{game_model}
-use Rattle.lab_cli.specs.Stops.{Denies, Found}
-use Rattle.lab_cli.proofs.Collecting.{advances_both, rose_earlier, no_fault_passed}
-use Rattle.lab_io.specs.Causes.{Rose}
-use Rattle.lab_cli.proofs.FoundLemmas.{check_refuses, says_passed, says_cut_off, says_game, says_extra, found_alone, check_alone, check_found}
+use Rattle.lab_input.specs.declared.stop.Stop.TheVariants as stop
+use Rattle.lab_input.specs.Stops.{Denies}
+use Rattle.lab_cli.proofs.AnsweredLemmas.{check_refuses, answered_cut_off, answered_denied}
+use Rattle.lab_cli.proofs.ContinuedLemmas.{answered_passed}
+use Rattle.lab_cli.proofs.AloneLemmas.{check_alone, answered_not_ended, answered_unwritten, answered_alone}
+use Rattle.lab_cli.proofs.StopLemmas.{other_passed}
 use Rattle.lab_cli.proofs.check.check.Goals as goal
 
-pub returns-in_err-part-clause-says : goal.returns-in_err-part-clause-says
-returns-in_err-part-clause-says g c =
-    says_passed (Rose (g.S.Source.faults c.args.source.now) (g.S.Source.faults c.read.new.source)) (Found (Some check) (g.S.Source.left c.args.source.now) (g.S.Source.left c.read.new.source)) c.in_err-part.field-0.0 _ c.from_residual.ensures (says_cut_off (Rose (g.S.Source.faults c.args.source.now) (g.S.Source.faults c.read.new.source)) check playable (g.S.Source.left c.args.source.now) (g.S.Source.left c.read.new.source) c.in_err-part.field-0.0 check_refuses c.in_err-part.ensures.stop)
+pub returns-in_err-part-clause-answered : goal.returns-in_err-part-clause-answered
+returns-in_err-part-clause-answered g c =
+    answered_passed c.in_err-part.field-0.0 _ c.from_residual.ensures (answered_cut_off _ c.in_err-part.field-0.0 check_refuses c.in_err-part.ensures.stop)
 
-pub returns-in_err-played-clause-says : goal.returns-in_err-played-clause-says
-returns-in_err-played-clause-says g c =
-    says_passed (Rose (g.S.Source.faults c.args.source.now) (g.S.Source.faults c.read.new.source)) (Found (Some check) (g.S.Source.left c.args.source.now) (g.S.Source.left c.read.new.source)) c.in_err-played.field-0.0 _ c.from_residual-in_err-played.ensures
-    (says_game (Rose (g.S.Source.faults c.args.source.now) (g.S.Source.faults c.read.new.source)) check playable (g.S.Source.left c.args.source.now) c.read.new.reader.ahead (g.S.Source.left c.read.new.source) c.in_ok-part.part.text.items c.in_ok-part.part.done c.in_err-played.field-0.0 check_refuses
-    c.in_ok-part.ensures.part (subst (λ t. Denies (playable t c.in_ok-part.part.done) c.in_err-played.field-0.0) c.as_slice.ensures.value c.in_err-played.ensures))
+pub returns-in_err-played-clause-answered : goal.returns-in_err-played-clause-answered
+returns-in_err-played-clause-answered g c =
+    answered_passed c.in_err-played.field-0.0 _ c.from_residual-in_err-played.ensures
+    (answered_denied _ c.in_err-played.field-0.0 check_refuses c.in_ok-part.ensures.part c.in_ok-part.ensures.ahead
+    (subst (λ t. Denies (playable t c.in_ok-part.part.done) c.in_err-played.field-0.0) c.as_slice.ensures.value c.in_err-played.ensures))
 
-pub returns-in_err-check_end-clause-says : goal.returns-in_err-check_end-clause-says
-returns-in_err-check_end-clause-says g c =
-    says_passed (Rose (g.S.Source.faults c.args.source.now) (g.S.Source.faults c.check_end.new.source)) (Found (Some check) (g.S.Source.left c.args.source.now) (g.S.Source.left c.check_end.new.source)) c.in_err-check_end.field-0.0 _ c.from_residual-in_err-check_end.ensures
-    (says_extra (Rose (g.S.Source.faults c.args.source.now) (g.S.Source.faults c.check_end.new.source)) (Rose (g.S.Source.faults c.read.new.source) (g.S.Source.faults c.check_end.new.source)) check (g.S.Source.left c.args.source.now) c.read.new.reader.ahead (g.S.Source.left c.read.new.source) (g.S.Source.left c.check_end.new.source) c.in_ok-part.part.text.items c.in_ok-part.part.done c.in_err-check_end.field-0.0
-    c.in_ok-part.ensures.part (check_alone c.in_ok-part.part.text.items c.in_ok-part.part.done (game_model c.in_ok-played.played.game) (ap (λ t. playable t c.in_ok-part.part.done) (sym c.as_slice.ensures.value) ∙ c.in_ok-played.ensures)) c.in_err-check_end.ensures.stop (rose_earlier _ _ _ c.in_ok-part.ensures.later))
+pub returns-in_err-check_end-clause-answered : goal.returns-in_err-check_end-clause-answered
+returns-in_err-check_end-clause-answered g c =
+    answered_passed c.in_err-check_end.field-0.0 _ c.from_residual-in_err-check_end.ensures
+    (answered_not_ended _ c.in_err-check_end.field-0.0 c.in_ok-part.ensures.part
+    (check_alone c.in_ok-part.part.text.items c.in_ok-part.part.done (game_model c.in_ok-played.played.game)
+    (ap (λ t. playable t c.in_ok-part.part.done) (sym c.as_slice.ensures.value) ∙ c.in_ok-played.ensures))
+    c.in_err-check_end.ensures.stop)
 
-pub returns-in-Ok-clause-says : goal.returns-in-Ok-clause-says
-returns-in-Ok-clause-says g c =
-    found_alone check (g.S.Source.left c.args.source.now) c.read.new.reader.ahead (g.S.Source.left c.read.new.source) c.check_end.new.reader.ahead (g.S.Source.left c.check_end.new.source) c.in_ok-part.part.text.items c.in_ok-part.part.done c.in-Ok.line.items
-    c.in_ok-part.ensures.part (check_found c.in_ok-part.part.text.items c.in_ok-part.part.done (game_model c.in_ok-played.played.game) c.in-Ok.line.items (ap (λ t. playable t c.in_ok-part.part.done) (sym c.as_slice.ensures.value) ∙ c.in_ok-played.ensures) c.in-Ok.ensures)
-    c.in_ok-check_end.ensures.takes c.in_ok-check_end.ensures.end
+pub returns-in_err-check_end-clause-no_read_fault : goal.returns-in_err-check_end-clause-no_read_fault
+returns-in_err-check_end-clause-no_read_fault g c =
+    λ other. c.in_err-check_end.ensures.no_fault (other_passed c.in_err-check_end.field-0.0 stop.ReadFault c.from_residual-in_err-check_end.result c.from_residual-in_err-check_end.ensures other) ∙ c.in_ok-part.ensures.no_fault (λ e. cc)
 
-pub returns-in_err-check_end-clause-advances : goal.returns-in_err-check_end-clause-advances
-returns-in_err-check_end-clause-advances g c =
-    advances_both (g.S.Source.left c.args.source.now) (g.S.Source.left c.read.new.source) (g.S.Source.left c.check_end.new.source) c.in_ok-part.ensures.advances c.check_end.ensures.advances
+pub returns-in_err-line-clause-answered : goal.returns-in_err-line-clause-answered
+returns-in_err-line-clause-answered g c =
+    answered_passed stop.Memory _ c.from_residual-in_err-line.ensures (answered_unwritten _ c.in_ok-part.ensures.part c.in_ok-check_end.ensures.takes c.in_ok-check_end.ensures.end)
 
-pub returns-in-Ok-clause-advances : goal.returns-in-Ok-clause-advances
-returns-in-Ok-clause-advances g c =
-    advances_both (g.S.Source.left c.args.source.now) (g.S.Source.left c.read.new.source) (g.S.Source.left c.check_end.new.source) c.in_ok-part.ensures.advances c.check_end.ensures.advances
+pub returns-clause-answered : goal.returns-clause-answered
+returns-clause-answered g c =
+    answered_alone (counts_line (game_model c.in_ok-played.played.game)) _ c.write_all.result c.in_ok-part.ensures.part c.in_ok-check_end.ensures.takes c.in_ok-check_end.ensures.end
+    (check_alone c.in_ok-part.part.text.items c.in_ok-part.part.done (game_model c.in_ok-played.played.game)
+    (ap (λ t. playable t c.in_ok-part.part.done) (sym c.as_slice.ensures.value) ∙ c.in_ok-played.ensures))
+    (c.as_slice-2.ensures.value ∙ c.in_ok-line.ensures)
+    (record { whole = c.write_all.ensures.whole; front = c.write_all.ensures.front; only = c.write_all.ensures.only })
 
-pub returns-clause-advances : goal.returns-clause-advances
-returns-clause-advances g c =
-    advances_both (g.S.Source.left c.args.source.now) (g.S.Source.left c.read.new.source) (g.S.Source.left c.check_end.new.source) c.in_ok-part.ensures.advances c.check_end.ensures.advances
-
-pub returns-in_err-check_end-clause-no_fault : goal.returns-in_err-check_end-clause-no_fault
-returns-in_err-check_end-clause-no_fault g c =
-    λ other. c.in_err-check_end.ensures.no_fault (no_fault_passed c.in_err-check_end.field-0.0 c.from_residual-in_err-check_end.result c.from_residual-in_err-check_end.ensures other) ∙ c.in_ok-part.ensures.no_fault (λ e. cc)
-
-pub returns-in-Ok-clause-no_fault : goal.returns-in-Ok-clause-no_fault
-returns-in-Ok-clause-no_fault g c = λ _. c.in_ok-check_end.ensures.no_fault (λ e. cc) ∙ c.in_ok-part.ensures.no_fault (λ e. cc)
+pub returns-clause-no_read_fault : goal.returns-clause-no_read_fault
+returns-clause-no_read_fault g c =
+    λ _. c.in_ok-check_end.ensures.no_fault (λ e. cc) ∙ c.in_ok-part.ensures.no_fault (λ e. cc)

@@ -1,31 +1,40 @@
-use Rattle.std.proofs.Common.{Some, sym, map, string_bytes}
-use Rattle.lab_io.specs.Causes.{Rose}
+use Rattle.std.proofs.Common.{refl, sym, ◌∙◌, map, string_bytes}
 use Rattle.lab_cli.specs.ModeNames.{mode_model}
-use Rattle.lab_cli.specs.Stops.{Found}
-use Rattle.lab_cli.proofs.RunLemmas.{tells_rejected, tells_answer, answers, rejected, read_fault_cause, write_fault_cause, not_bad_words}
+use Rattle.lab_cli.proofs.RunLemmas.{tells_answered, tells_rejected, is_answer, is_rejection, line_written, read_fault_is, read_fault_status, write_fault_status, write_fault_cause, not_bad_words}
 use Rattle.lab_cli.proofs.program.run.Goals as goal
 
 pub returns-in-Some-clause-told : goal.returns-in-Some-clause-told
-returns-in-Some-clause-told g c =
-    tells_answer (map string_bytes c.args.words.now) (mode_model c.in-Some.mode) (Rose (g.S.Source.faults c.args.source.now) (g.S.Source.faults c.answer.new.source)) c.answer.result _ _ _ _ _ _ _ (sym c.in-Some.ensures) c.answer.ensures.says c.answer.ensures.advances c.write_answer.ensures.writes
+returns-in-Some-clause-told g c = tells_answered (map string_bytes c.args.words.now) (mode_model c.in-Some.mode) c.answer-ended.result _ _ _ _ _ _ (sym c.in-Some.ensures) c.answer-ended.ensures.answered c.finish.ensures.finishes
 
 pub returns-in-Some-clause-read_fault : goal.returns-in-Some-clause-read_fault
-returns-in-Some-clause-read_fault g c = read_fault_cause _ (Found (Some (mode_model c.in-Some.mode)) (g.S.Source.left c.args.source.now) (g.S.Source.left c.answer.new.source)) c.answer.result _ _ _ _ _ c.answer.ensures.says c.write_answer.ensures.writes
+returns-in-Some-clause-read_fault g c = λ e. c.answer-ended.ensures.read_fault (read_fault_is c.answer-ended.result _ _ _ c.finish.ensures.finishes e)
 
 pub returns-in-Some-clause-write_fault : goal.returns-in-Some-clause-write_fault
-returns-in-Some-clause-write_fault g c = write_fault_cause c.answer.result _ _ _ _ _ c.write_answer.ensures.writes
-
-pub returns-in-Some-clause-answer : goal.returns-in-Some-clause-answer
-returns-in-Some-clause-answer g c = λ _. answers (map string_bytes c.args.words.now) (mode_model c.in-Some.mode) _ c.answer.result _ _ _ _ _ _ _ (sym c.in-Some.ensures) c.answer.ensures.says c.write_answer.ensures.writes
-
-pub returns-in-Some-clause-bad_words : goal.returns-in-Some-clause-bad_words
-returns-in-Some-clause-bad_words g c = λ e. absurd (not_bad_words c.answer.result _ _ _ _ _ c.write_answer.ensures.writes e)
-
-pub returns-in-None-clause-told : goal.returns-in-None-clause-told
-returns-in-None-clause-told g c = tells_rejected _ (g.S.Source.left c.args.source.now) _ _ _ _ _ (sym c.in-None.ensures) c.write_last.ensures
-
-pub returns-in-None-clause-bad_words : goal.returns-in-None-clause-bad_words
-returns-in-None-clause-bad_words g c = rejected (map string_bytes c.args.words.now) _ _ _ _ _ (sym c.in-None.ensures) c.write_last.ensures
+returns-in-Some-clause-write_fault g c = write_fault_cause c.answer-ended.result _ _ _ _ c.answer-ended.ensures.write_later c.finish.ensures.later c.answer-ended.ensures.write_fault c.finish.ensures.fault
 
 pub returns-in-Some-clause-no_read_fault : goal.returns-in-Some-clause-no_read_fault
-returns-in-Some-clause-no_read_fault g c = λ other. c.answer.ensures.no_fault (λ e. other (c.write_answer.ensures.read_fault e))
+returns-in-Some-clause-no_read_fault g c = λ other. c.answer-ended.ensures.no_read_fault (λ e. other (read_fault_status c.answer-ended.result _ _ _ c.finish.ensures.finishes e))
+
+pub returns-in-Some-clause-no_write_fault : goal.returns-in-Some-clause-no_write_fault
+returns-in-Some-clause-no_write_fault g c =
+    λ other. c.finish.ensures.no_fault other ∙ c.answer-ended.ensures.no_write_fault (λ e. other (write_fault_status c.answer-ended.result _ _ _ c.finish.ensures.finishes e))
+
+pub returns-in-Some-clause-answer : goal.returns-in-Some-clause-answer
+returns-in-Some-clause-answer g c =
+    λ _. is_answer (map string_bytes c.args.words.now) c.finish.result _ _ _ _ _ _
+    (tells_answered (map string_bytes c.args.words.now) (mode_model c.in-Some.mode) c.answer-ended.result _ _ _ _ _ _ (sym c.in-Some.ensures) c.answer-ended.ensures.answered c.finish.ensures.finishes)
+    (λ e. c.answer-ended.ensures.read_fault (read_fault_is c.answer-ended.result _ _ _ c.finish.ensures.finishes e))
+    (write_fault_cause c.answer-ended.result _ _ _ _ c.answer-ended.ensures.write_later c.finish.ensures.later c.answer-ended.ensures.write_fault c.finish.ensures.fault)
+    (not_bad_words c.answer-ended.result _ _ _ c.finish.ensures.finishes)
+
+pub returns-in-Some-clause-bad_words : goal.returns-in-Some-clause-bad_words
+returns-in-Some-clause-bad_words g c = λ e. absurd (not_bad_words c.answer-ended.result _ _ _ c.finish.ensures.finishes e)
+
+pub returns-in-None-clause-told : goal.returns-in-None-clause-told
+returns-in-None-clause-told g c = tells_rejected _ (g.S.Source.left c.args.source.now) _ _ _ (sym c.in-None.ensures) c.usage.ensures.line
+
+pub returns-in-None-clause-bad_words : goal.returns-in-None-clause-bad_words
+returns-in-None-clause-bad_words g c = λ e. (sym c.in-None.ensures, line_written _ _ _ _ c.usage.ensures.line e)
+
+pub returns-in-None-clause-no_mode : goal.returns-in-None-clause-no_mode
+returns-in-None-clause-no_mode g c = λ _. (refl, is_rejection _ _ _ _ c.usage.ensures.line)

@@ -1,41 +1,62 @@
-use Rattle.std.proofs.Common.{◌≡◌, true, Some, sym, ap, ◌∙◌, subst}
+-- The lines of a game come first; what follows them is answered by its replies.
+use Rattle.std.proofs.Common.{◌+◌, Err, sym, ap, ◌∙◌, subst, arith}
+use Rattle.lab_defs_report.specs.Cuts.{game_limit, commands_limit}
 use Rattle.lab_defs_report.specs.GameModes.{playable}
-use Rattle.lab_defs_report.specs.Modes.{session}
 use Rattle.lab_world.specs.Games.{game_model}
-use Rattle.lab_cli.specs.Stops.{Denies, Found, Says}
-use Rattle.lab_defs_text.specs.Words.{lines}
-use Rattle.lab_defs_report.specs.Reports.{commands_answer}
-use Rattle.lab_cli.proofs.Collecting.{advances_both, rose_earlier}
-use Rattle.lab_io.specs.Causes.{Rose}
-use Rattle.lab_cli.proofs.FoundLemmas.{session_refuses, says_passed, says_cut_off, says_game, says_too_long, says_answered}
+use Rattle.lab_input.proofs.CallerLemmas.{rose_earlier}
+use Rattle.lab_input.specs.Stops.{Denies}
+use Rattle.lab_input.specs.declared.stop.Stop.TheVariants as stop
+use Rattle.lab_cli.proofs.AnsweredLemmas.{session_refuses, answered_within, answered_cut_off, answered_denied}
+use Rattle.lab_cli.proofs.ContinuedLemmas.{answered_passed}
+use Rattle.lab_cli.proofs.SessionLemmas.{answered_commands}
+use Rattle.lab_cli.proofs.StopLemmas.{stop_passed, other_passed, not_passed, cut_off_no_write_fault, denied_no_read_fault, denied_no_write_fault}
 use Rattle.lab_cli.proofs.session.session.Goals as goal
 
-pub returns-in_err-part-clause-says : goal.returns-in_err-part-clause-says
-returns-in_err-part-clause-says g c =
-    says_passed (Rose (g.S.Source.faults c.args.source.now) (g.S.Source.faults c.read.new.source)) (Found (Some session) (g.S.Source.left c.args.source.now) (g.S.Source.left c.read.new.source)) c.in_err-part.field-0.0 _ c.from_residual.ensures (says_cut_off (Rose (g.S.Source.faults c.args.source.now) (g.S.Source.faults c.read.new.source)) session playable (g.S.Source.left c.args.source.now) (g.S.Source.left c.read.new.source) c.in_err-part.field-0.0 session_refuses c.in_err-part.ensures.stop)
+pub returns-in_err-part-clause-answered : goal.returns-in_err-part-clause-answered
+returns-in_err-part-clause-answered g c =
+    answered_passed c.in_err-part.field-0.0 c.from_residual.result c.from_residual.ensures
+    (answered_within (game_limit + commands_limit) (Err c.in_err-part.field-0.0) (omega arith) (answered_cut_off _ c.in_err-part.field-0.0 session_refuses c.in_err-part.ensures.stop))
 
-pub returns-in_err-played-clause-says : goal.returns-in_err-played-clause-says
-returns-in_err-played-clause-says g c =
-    says_passed (Rose (g.S.Source.faults c.args.source.now) (g.S.Source.faults c.read.new.source)) (Found (Some session) (g.S.Source.left c.args.source.now) (g.S.Source.left c.read.new.source)) c.in_err-played.field-0.0 _ c.from_residual-in_err-played.ensures
-    (says_game (Rose (g.S.Source.faults c.args.source.now) (g.S.Source.faults c.read.new.source)) session playable (g.S.Source.left c.args.source.now) c.read.new.reader.ahead (g.S.Source.left c.read.new.source) c.in_ok-part.part.text.items c.in_ok-part.part.done c.in_err-played.field-0.0 session_refuses
-    c.in_ok-part.ensures.part (subst (λ t. Denies (playable t c.in_ok-part.part.done) c.in_err-played.field-0.0) c.as_slice.ensures.value c.in_err-played.ensures))
+pub returns-in_err-part-clause-read_fault : goal.returns-in_err-part-clause-read_fault
+returns-in_err-part-clause-read_fault g c =
+    λ e. c.in_err-part.ensures.fault (stop_passed c.in_err-part.field-0.0 stop.ReadFault c.from_residual.result c.from_residual.ensures e)
 
-pub returns-in_err-behind-clause-says : goal.returns-in_err-behind-clause-says
-returns-in_err-behind-clause-says g c =
-    says_passed (Rose (g.S.Source.faults c.args.source.now) (g.S.Source.faults c.all_behind.new.source)) (Found (Some session) (g.S.Source.left c.args.source.now) (g.S.Source.left c.all_behind.new.source)) c.in_err-behind.field-0.0 _ c.from_residual-in_err-behind.ensures
-    (says_too_long (Rose (g.S.Source.faults c.args.source.now) (g.S.Source.faults c.all_behind.new.source)) (Rose (g.S.Source.faults c.read.new.source) (g.S.Source.faults c.all_behind.new.source)) (g.S.Source.left c.args.source.now) c.read.new.reader.ahead (g.S.Source.left c.read.new.source) (g.S.Source.left c.all_behind.new.source) c.in_ok-part.part.text.items c.in_ok-part.part.done (game_model c.in_ok-played.played.game) c.in_err-behind.field-0.0
-    c.in_ok-part.ensures.part (ap (λ t. playable t c.in_ok-part.part.done) (sym c.as_slice.ensures.value) ∙ c.in_ok-played.ensures) c.in_err-behind.ensures.stop (rose_earlier _ _ _ c.in_ok-part.ensures.later))
+pub returns-in_err-part-clause-write_fault : goal.returns-in_err-part-clause-write_fault
+returns-in_err-part-clause-write_fault g c =
+    λ e. absurd (not_passed c.in_err-part.field-0.0 stop.WriteFault c.from_residual.result c.from_residual.ensures (cut_off_no_write_fault _ _ c.in_err-part.field-0.0 c.in_err-part.ensures.stop) e)
 
-pub returns-clause-says : goal.returns-clause-says
-returns-clause-says g c =
-    says_answered (Rose (g.S.Source.faults c.args.source.now) (g.S.Source.faults c.all_behind.new.source)) (g.S.Source.left c.args.source.now) c.read.new.reader.ahead (g.S.Source.left c.read.new.source) c.all_behind.new.reader.ahead (g.S.Source.left c.all_behind.new.source) c.in_ok-part.part.text.items c.in_ok-behind.behind.items c.in_ok-part.part.done (game_model c.in_ok-played.played.game) c.answers.result
-    c.in_ok-part.ensures.part (ap (λ t. playable t c.in_ok-part.part.done) (sym c.as_slice.ensures.value) ∙ c.in_ok-played.ensures) c.in_ok-behind.ensures.takes c.in_ok-behind.ensures.end c.in_ok-behind.ensures.none_ahead
-    (subst (λ b. Says ⊥ (λ a. a ≡ commands_answer true c.in_ok-part.part.done (game_model c.in_ok-played.played.game) (lines b)) c.answers.result) c.as_slice-2.ensures.value c.answers.ensures)
+pub returns-in_err-part-clause-no_read_fault : goal.returns-in_err-part-clause-no_read_fault
+returns-in_err-part-clause-no_read_fault g c =
+    λ other. c.in_err-part.ensures.no_fault (other_passed c.in_err-part.field-0.0 stop.ReadFault c.from_residual.result c.from_residual.ensures other)
 
-pub returns-in_err-behind-clause-advances : goal.returns-in_err-behind-clause-advances
-returns-in_err-behind-clause-advances g c =
-    advances_both (g.S.Source.left c.args.source.now) (g.S.Source.left c.read.new.source) (g.S.Source.left c.all_behind.new.source) c.in_ok-part.ensures.advances c.all_behind.ensures.advances
+pub returns-in_err-played-clause-answered : goal.returns-in_err-played-clause-answered
+returns-in_err-played-clause-answered g c =
+    answered_passed c.in_err-played.field-0.0 c.from_residual-in_err-played.result c.from_residual-in_err-played.ensures
+    (answered_within (game_limit + commands_limit) (Err c.in_err-played.field-0.0) (omega arith)
+    (answered_denied _ c.in_err-played.field-0.0 session_refuses c.in_ok-part.ensures.part c.in_ok-part.ensures.ahead
+    (subst (λ t. Denies (playable t c.in_ok-part.part.done) c.in_err-played.field-0.0) c.as_slice.ensures.value c.in_err-played.ensures)))
 
-pub returns-clause-advances : goal.returns-clause-advances
-returns-clause-advances g c =
-    advances_both (g.S.Source.left c.args.source.now) (g.S.Source.left c.read.new.source) (g.S.Source.left c.all_behind.new.source) c.in_ok-part.ensures.advances c.all_behind.ensures.advances
+pub returns-in_err-played-clause-read_fault : goal.returns-in_err-played-clause-read_fault
+returns-in_err-played-clause-read_fault g c =
+    λ e. absurd (not_passed c.in_err-played.field-0.0 stop.ReadFault c.from_residual-in_err-played.result c.from_residual-in_err-played.ensures (denied_no_read_fault _ c.in_err-played.field-0.0 c.in_err-played.ensures) e)
+
+pub returns-in_err-played-clause-write_fault : goal.returns-in_err-played-clause-write_fault
+returns-in_err-played-clause-write_fault g c =
+    λ e. absurd (not_passed c.in_err-played.field-0.0 stop.WriteFault c.from_residual-in_err-played.result c.from_residual-in_err-played.ensures (denied_no_write_fault _ c.in_err-played.field-0.0 c.in_err-played.ensures) e)
+
+pub returns-in_err-played-clause-no_read_fault : goal.returns-in_err-played-clause-no_read_fault
+returns-in_err-played-clause-no_read_fault g c = λ _. c.in_ok-part.ensures.no_fault (λ e. cc)
+
+pub replies-requires-clause-done : goal.replies-requires-clause-done
+replies-requires-clause-done g c = omega (arith, c.in_ok-part.ensures.part.few, c.in_ok-part.ensures.part.short)
+
+pub returns-clause-answered : goal.returns-clause-answered
+returns-clause-answered g c =
+    answered_commands _ _ _ _ _ c.read.new.reader.ahead c.in_ok-part.part.text.items c.in_ok-part.part.done (game_model c.in_ok-played.played.game) c.replies.result c.in_ok-part.ensures.part
+    (ap (λ t. playable t c.in_ok-part.part.done) (sym c.as_slice.ensures.value) ∙ c.in_ok-played.ensures) c.replies.ensures.answered
+
+pub returns-clause-read_fault : goal.returns-clause-read_fault
+returns-clause-read_fault g c = λ e. rose_earlier _ _ _ c.in_ok-part.ensures.later (c.replies.ensures.read_fault e)
+
+pub returns-clause-no_read_fault : goal.returns-clause-no_read_fault
+returns-clause-no_read_fault g c = λ other. c.replies.ensures.no_read_fault other ∙ c.in_ok-part.ensures.no_fault (λ e. cc)

@@ -1,0 +1,4 @@
+pub mod CutLines
+pub mod GameParts
+pub mod PlainLines
+pub mod Stops

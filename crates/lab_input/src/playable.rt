@@ -1,0 +1,62 @@
+//! Games that can be played, with their histories.
+ghost use Rattle.std.specs.Prelude.{◌≡◌, ◌<◌, ◌^◌, length, None, IfOk, OnOk, IfErr};
+ghost use Rattle.lab_defs_game.specs.Unfolding.{unfold_fault};
+ghost use Rattle.lab_defs_game.specs.Recall.{recall_fault};
+ghost use Rattle.lab_defs_report.specs.GameModes.{accepted_at, playable as playable_game};
+ghost use Rattle.lab_defs_game.specs.Accepted.{IsAccepted};
+ghost use Rattle.lab_world.specs.Games.{game_model};
+ghost use Rattle.lab_unfold.specs.Values.{unfolded};
+ghost use Rattle.lab_input.specs.Stops.{Denies, Gives};
+
+use crate::game_faults::{refused_recall, refused_unfolding};
+use crate::stop::Stop;
+use crate::text_faults::game_of;
+use lab_recall::check_sets;
+use lab_unfold::{Histories, unfold};
+use lab_world::Game;
+use std::alloc::Global;
+
+/// A game that unfolds and has perfect recall, with its histories.
+#[derive(Drop)]
+pub struct Playable {
+    pub game: Game,
+    pub histories: Histories,
+    ghost unfolded: { histories ≡ unfolded (game_model game) },
+    ghost accepted: { IsAccepted (game_model game) },
+}
+
+/// The game of a text whose last line has the number `done`, or the refusal of its first fault.
+pub fn played_game(alloc: Global, text: &[u8], done: u32) -> Result<Playable, Stop>
+    requires { length text.now < 2 ^ 32 }
+    ensures { Gives (λ p. game_model p.game) (playable_game text.now done) result }
+{
+    let game = game_of(alloc, text)?;
+    let histories = unfolded_game(alloc, &game, done)?;
+    check_recall(alloc, &game, &histories, done)?;
+    Ok(Playable { game, histories })
+}
+
+// The histories of a game, or the refusal of a game that does not unfold.
+fn unfolded_game(alloc: Global, game: &Game, done: u32) -> Result<Histories, Stop>
+    ensures unfolded { IfOk result (λ h. h ≡ unfolded (game_model game.now)) }
+    ensures unfolds { OnOk result (unfold_fault (game_model game.now) ≡ None) }
+    ensures refused { IfErr result (λ s. Denies (accepted_at done (game_model game.now)) s) }
+{
+    match unfold(alloc, game) {
+        Ok(histories) => Ok(histories),
+        Err(fault) => Err(refused_unfolding(alloc, game, done, fault)),
+    }
+}
+
+// Refuses a game without perfect recall.
+fn check_recall(alloc: Global, game: &Game, histories: &Histories, done: u32) -> Result<(), Stop>
+    requires unfolded { histories.now ≡ unfolded (game_model game.now) }
+    requires unfolds { unfold_fault (game_model game.now) ≡ None }
+    ensures recalls { OnOk result (recall_fault (game_model game.now) ≡ None) }
+    ensures refused { IfErr result (λ s. Denies (accepted_at done (game_model game.now)) s) }
+{
+    match check_sets(alloc, game, histories) {
+        Ok(()) => Ok(()),
+        Err(fault) => Err(refused_recall(alloc, game, histories, done, fault)),
+    }
+}
