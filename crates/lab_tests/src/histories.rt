@@ -6,7 +6,7 @@ ghost use Rattle.lab_unfold.specs.Values.{unfolded};
 
 use crate::kuhn::kuhn_text;
 use lab_text::read_game;
-use lab_unfold::{Histories, HistoryId, Step, unfold};
+use lab_unfold::{Histories, HistoryId, Item, Step, last_seen, unfold};
 use lab_world::{Game, WorldId};
 use std::alloc::Global;
 use std::test::Fail;
@@ -77,5 +77,45 @@ fn finds_longer_histories(rt: HostRuntime) -> Result<(), Fail> {
         };
         assert_eq!(rt; histories.child(root, &step), wanted, "outcome {outcome}");
     }
+    Ok(())
+}
+
+#[test]
+fn reports_payoffs(rt: HostRuntime) -> Result<(), Fail> {
+    let game = kuhn(rt.alloc())?;
+    let histories = histories_of(rt.alloc(), &game)?;
+    let root = history_at(&histories, 0)?;
+    let last = history_at(&histories, 43)?;
+    assert_eq!(rt; histories.payoff(root), 0);
+    assert_eq!(rt; histories.payoff(last), -1);
+    Ok(())
+}
+
+#[test]
+fn finds_the_first_histories_of_nodes_and_sets(rt: HostRuntime) -> Result<(), Fail> {
+    let game = kuhn(rt.alloc())?;
+    let histories = histories_of(rt.alloc(), &game)?;
+    // Seat 1 has checked and seat 2 has bet in the histories 20, 24, .. 40; seat 1 has the card 1 in 20 and 24, seat 2
+    // the card 2 in 20 and 40.
+    assert_eq!(rt; histories.node_firsts().get(40).copied(), Some(20));
+    assert_eq!(rt; histories.set_firsts(1).get(24).copied(), Some(20));
+    assert_eq!(rt; histories.set_firsts(1).get(40).copied(), Some(36));
+    assert_eq!(rt; histories.set_firsts(2).get(40).copied(), Some(20));
+    Ok(())
+}
+
+#[test]
+fn reports_what_a_seat_sees_last(rt: HostRuntime) -> Result<(), Fail> {
+    let game = kuhn(rt.alloc())?;
+    let histories = histories_of(rt.alloc(), &game)?;
+    let bet = history_at(&histories, 20)?;
+    let item = Item {
+        action: 0,
+        own: 0,
+        public: 5,
+    };
+    assert_eq!(rt; last_seen(&game, &histories, 1, bet), Some(item));
+    let root = history_at(&histories, 0)?;
+    assert_eq!(rt; last_seen(&game, &histories, 1, root), None);
     Ok(())
 }

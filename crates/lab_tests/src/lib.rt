@@ -1,6 +1,8 @@
-//! Tests of the program as a whole, over sources and sinks in memory.
+//! Tests of the program as a whole, over sources and sinks in memory, and of games, histories and trees.
 #![tactic(auto)]
 
+#[cfg(test)]
+mod assembling;
 #[cfg(test)]
 mod cases;
 #[cfg(test)]
@@ -17,6 +19,8 @@ mod leduc;
 mod prints;
 #[cfg(test)]
 mod readers;
+#[cfg(test)]
+mod reads;
 #[cfg(test)]
 mod sessions;
 #[cfg(test)]
