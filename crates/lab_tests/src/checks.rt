@@ -80,7 +80,7 @@ fn refuses_recall(rt: HostRuntime) -> Result<(), Fail> {
 }
 
 #[test]
-fn refuses_a_byte_behind_the_game(rt: HostRuntime) -> Result<(), Fail> {
+fn refuses_a_byte_after_the_game(rt: HostRuntime) -> Result<(), Fail> {
     let cases = [
         Case {
             commands: "x",

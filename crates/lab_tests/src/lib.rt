@@ -26,4 +26,6 @@ mod sessions;
 #[cfg(test)]
 mod texts;
 #[cfg(test)]
+mod trees;
+#[cfg(test)]
 mod turns;
