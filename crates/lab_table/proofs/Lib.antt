@@ -1,2 +1,4 @@
 mod QuotientLemmas
 mod HandingLemmas
+mod PlaceLemmas
+mod EvenLemmas
