@@ -1,4 +1,6 @@
+pub mod CallerLemmas
 mod QuotientLemmas
 mod HandingLemmas
 mod PlaceLemmas
 mod EvenLemmas
+mod SpliceLemmas

@@ -2,9 +2,10 @@
 
 ghost use Rattle.std.specs.Prelude.{◌≡◌, ◌⊎◌, ◌<◌, ◌≤◌, ◌^◌, ◌↔◌, ℕ, length, slice_range, IfOk, OnOk, Err};
 ghost use Rattle.lab_defs_value.specs.Tables.{first_weight, uniform_table};
+ghost use Rattle.lab_defs_value.specs.Splices.{FitsSpan};
 ghost use Rattle.lab_form.specs.Forms.{sets_of, actions_in, weight_count, AreSets};
 ghost use Rattle.lab_form.specs.declared.items.SetId.{SetId};
-ghost use Rattle.lab_table.specs.Tables.{seat_actions, AreWeights, IsWrongCount, IsFirstWrong};
+ghost use Rattle.lab_table.specs.Tables.{seat_actions, all_weights, AreWeights, IsWrongCount, IsFirstWrong};
 
 use super::check::check;
 use super::even::uniform_weights;
@@ -34,6 +35,9 @@ impl Model for Table {
 }
 
 impl Table {
+    ghost use Rattle.std.specs.Borrow.{sem};
+    ghost use Rattle.lab_table.specs.Lending.{LendsWindow};
+
     /// The table of a seat, 1 or 2, of a form that splits the grid of `d` evenly at each deciding set.
     pub fn uniform(alloc: Global, form: &Form, seat: u32, d: u32) -> Result<Self, NoMemory>
         requires seat { (seat ≡ 1) ⊎ (seat ≡ 2) }
@@ -80,7 +84,8 @@ impl Table {
 
     /// The weights.
     pub fn weights(&self) -> &[u32]
-        ensures { result.now ≡ self.now.weights }
+        ensures weights { result.now ≡ self.now.weights }
+        ensures count { length result.now ≡ all_weights self.now.actions }
     {
         self.weights.as_slice()
     }
@@ -89,10 +94,23 @@ impl Table {
     pub fn window(&self, span: Span) -> &[u32]
         requires order { span.from ≤ span.to }
         requires end { span.to ≤ length self.now.actions }
-        ensures { result.now ≡ slice_range self.now.weights (first_weight self.now.actions span.from) (first_weight self.now.actions span.to) }
+        ensures value { result.now ≡ slice_range self.now.weights (first_weight self.now.actions span.from) (first_weight self.now.actions span.to) }
+        ensures fits { FitsSpan self.now.actions span.from span.to self.now.weights result.now }
     {
         let (from, to) = self.places(span);
         &self.weights[from..to]
+    }
+
+    /// The weights at the sets of a span, to be written; the table has them where they were.
+    pub fn window_mut(&mut self, span: Span) -> &mut [u32]
+        requires order { span.from ≤ span.to }
+        requires end { span.to ≤ length self.old.actions }
+        ensures* writes_back { sem 𝓛 (LendsWindow self.entry span.from result) }
+        ensures value { result.now ≡ slice_range self.old.weights (first_weight self.old.actions span.from) (first_weight self.old.actions span.to) }
+        ensures fits { FitsSpan self.old.actions span.from span.to self.old.weights result.now }
+    {
+        let (from, to) = self.places(span);
+        self.weights.slice_mut(from..to)
     }
 
     // A table of copies of as many weights as the sets have.

@@ -1,6 +1,8 @@
 //! Roundings of shares, and tables of a small form, against numbers that are written out.
 
-ghost use Rattle.std.specs.Prelude.{◌≡◌, ◌∷◌, [], IfOk};
+ghost use Rattle.std.specs.Prelude.{◌≡◌, ◌≤◌, ◌-◌, ◌∷◌, [], length, replicate, IfOk};
+ghost use Rattle.lab_defs_value.specs.Splices.{spliced};
+ghost use Rattle.lab_defs_value.specs.Tables.{first_weight};
 ghost use Rattle.lab_form.specs.Forms.{actions_in};
 
 use super::*;
@@ -119,5 +121,31 @@ fn given_weights_make_a_table_or_are_refused(rt: HostRuntime) -> Result<(), Fail
     assert_eq!(rt; both, Some(TableGiven::WrongSum { set: SetId(0) }));
     let second = Table::given(rt.alloc(), &form, 1, 3, &[3, 0, 1, 1, 2]).err();
     assert_eq!(rt; second, Some(TableGiven::WrongSum { set: SetId(2) }));
+    Ok(())
+}
+
+/// Makes the weights of a span 0.
+fn clear(table: &mut Table, span: Span)
+    requires order { span.from ≤ span.to }
+    requires end { span.to ≤ length table.old.actions }
+    ensures { table.new ≡ record { actions = table.old.actions; weights = spliced table.old.actions span.from span.to table.old.weights (replicate (first_weight table.old.actions span.to - first_weight table.old.actions span.from) 0) } }
+{
+    table.window_mut(span).fill(0);
+}
+
+#[test]
+fn weights_are_written_where_they_stand(rt: HostRuntime) -> Result<(), Fail> {
+    let Ok(form) = three_sets(rt.alloc()) else {
+        return Err(Fail::new("no memory"));
+    };
+    let Ok(table) = Table::uniform(rt.alloc(), &form, 1, 4) else {
+        return Err(Fail::new("no memory"));
+    };
+    let mut table = table;
+    clear(&mut table, Span { from: 1, to: 3 });
+    assert_eq!(rt; table.weights(), [2, 2, 0, 0, 0].as_slice());
+    let window = table.window_mut(Span { from: 0, to: 2 });
+    window[1] = 3;
+    assert_eq!(rt; table.weights(), [2, 3, 0, 0, 0].as_slice());
     Ok(())
 }

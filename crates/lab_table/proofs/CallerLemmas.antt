@@ -1,0 +1,4 @@
+-- What callers may cite.
+
+-- a table after a window was written, in the words of the definitions
+pub use Rattle.lab_table.proofs.SpliceLemmas.{window_spliced}
