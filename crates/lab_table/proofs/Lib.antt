@@ -4,3 +4,4 @@ mod HandingLemmas
 mod PlaceLemmas
 mod EvenLemmas
 mod SpliceLemmas
+mod SumLemmas

@@ -30,7 +30,7 @@ first_le ns i j l =
     omega (arith, first_weight_from ns i (j - i), ap (first_weight ns) same)
 
 -- the next set's weights come after those of a set
-next_is : (ns : List ℕ) (i : ℕ) → i < length ns → first_weight ns (i + 1) ≡ first_weight ns i + weights_of (get_or ns i 0)
+pub next_is : (ns : List ℕ) (i : ℕ) → i < length ns → first_weight ns (i + 1) ≡ first_weight ns i + weights_of (get_or ns i 0)
 next_is ns i l = first_weight_from ns i 1 ∙ ap (λ xs. first_weight ns i + first_weight xs 1) (drop_more ns i 0 l) ∙ omega arith
 
 actions_length : (sets : List FormSet) → length (actions_in sets) ≡ length sets

@@ -13,6 +13,10 @@ pub record TableValue : Type 0 where
 abbrev pub seat_actions : FormValue → ℕ → List ℕ
 seat_actions f seat = actions_in (sets_of f seat)
 
+-- the table of a seat of a form with these weights
+abbrev pub table_of : FormValue → ℕ → List ℕ → TableValue
+table_of f seat weights = record { actions = seat_actions f seat; weights = weights }
+
 -- how many weights there are at sets with these numbers of actions
 abbrev pub all_weights : List ℕ → ℕ
 all_weights actions = first_weight actions (length actions)
@@ -20,6 +24,10 @@ all_weights actions = first_weight actions (length actions)
 -- the weights at a set: none at a pass
 abbrev pub weights_at : (actions weights : List ℕ) → ℕ → List ℕ
 weights_at actions weights set = slice_range weights (first_weight actions set) (first_weight actions (set + 1))
+
+-- the weights of a table at its sets from one up to another
+abbrev pub weights_between : TableValue → (start end : ℕ) → List ℕ
+weights_between t start end = slice_range t.weights (first_weight t.actions start) (first_weight t.actions end)
 
 -- whether a set is a pass, or its weights sum to the grid
 abbrev pub sums_to : (grid : ℕ) → (actions weights : List ℕ) → ℕ → Bool

@@ -1,11 +1,11 @@
 //! The weights of a seat's strategy.
 
-ghost use Rattle.std.specs.Prelude.{◌≡◌, ◌⊎◌, ◌<◌, ◌≤◌, ◌^◌, ◌↔◌, ℕ, length, slice_range, IfOk, OnOk, Err};
+ghost use Rattle.std.specs.Prelude.{◌≡◌, ◌⊎◌, ◌<◌, ◌≤◌, ◌^◌, ◌↔◌, ℕ, length, IfOk, OnOk, Err};
 ghost use Rattle.lab_defs_value.specs.Tables.{first_weight, uniform_table};
 ghost use Rattle.lab_defs_value.specs.Splices.{FitsSpan};
 ghost use Rattle.lab_form.specs.Forms.{sets_of, actions_in, weight_count, AreSets};
 ghost use Rattle.lab_form.specs.declared.items.SetId.{SetId};
-ghost use Rattle.lab_table.specs.Tables.{seat_actions, all_weights, AreWeights, IsWrongCount, IsFirstWrong};
+ghost use Rattle.lab_table.specs.Tables.{seat_actions, table_of, all_weights, weights_between, AreWeights, IsWrongCount, IsFirstWrong};
 
 use super::check::check;
 use super::even::uniform_weights;
@@ -44,7 +44,7 @@ impl Table {
         requires least { 1 ≤ d }
         requires grid { d ≤ 4096 }
         requires few { weight_count (sets_of form.now seat) < 2 ^ 32 }
-        ensures { IfOk result (λ t. t ≡ record { actions = seat_actions form.now seat; weights = uniform_table d (seat_actions form.now seat) }) }
+        ensures { IfOk result (λ t. t ≡ table_of form.now seat (uniform_table d (seat_actions form.now seat))) }
     {
         let sets = form.sets(seat);
         let Ok(weights) = uniform_weights(alloc, sets, d) else {
@@ -68,7 +68,7 @@ impl Table {
         requires few_sets { length (sets_of form.now seat) < 2 ^ 32 }
         requires few { weight_count (sets_of form.now seat) < 2 ^ 32 }
         requires few_given { length weights.now < 2 ^ 32 }
-        ensures table { IfOk result (λ t. t ≡ record { actions = seat_actions form.now seat; weights = weights.now }) }
+        ensures table { IfOk result (λ t. t ≡ table_of form.now seat weights.now) }
         ensures sums { OnOk result (AreWeights d (seat_actions form.now seat) weights.now) }
         ensures wrong_count { (n m : ℕ) → (result ≡ Err (TableGiven.WrongCount n m)) ↔ IsWrongCount (seat_actions form.now seat) weights.now n m }
         ensures wrong_sum { (set : SetId) → (result ≡ Err (TableGiven.WrongSum set)) ↔ IsFirstWrong d (seat_actions form.now seat) weights.now set.0 }
@@ -94,7 +94,7 @@ impl Table {
     pub fn window(&self, span: Span) -> &[u32]
         requires order { span.from ≤ span.to }
         requires end { span.to ≤ length self.now.actions }
-        ensures value { result.now ≡ slice_range self.now.weights (first_weight self.now.actions span.from) (first_weight self.now.actions span.to) }
+        ensures value { result.now ≡ weights_between self.now span.from span.to }
         ensures fits { FitsSpan self.now.actions span.from span.to self.now.weights result.now }
     {
         let (from, to) = self.places(span);
@@ -106,7 +106,7 @@ impl Table {
         requires order { span.from ≤ span.to }
         requires end { span.to ≤ length self.old.actions }
         ensures* writes_back { sem 𝓛 (LendsWindow self.entry span.from result) }
-        ensures value { result.now ≡ slice_range self.old.weights (first_weight self.old.actions span.from) (first_weight self.old.actions span.to) }
+        ensures value { result.now ≡ weights_between self.old span.from span.to }
         ensures fits { FitsSpan self.old.actions span.from span.to self.old.weights result.now }
     {
         let (from, to) = self.places(span);

@@ -1,9 +1,9 @@
 //! Roundings of shares, and tables of a small form, against numbers that are written out.
 
-ghost use Rattle.std.specs.Prelude.{◌≡◌, ◌≤◌, ◌-◌, ◌∷◌, [], length, replicate, IfOk};
+ghost use Rattle.std.specs.Prelude.{◌≡◌, ◌≤◌, ◌∷◌, [], length, replicate, IfOk};
 ghost use Rattle.lab_defs_value.specs.Splices.{spliced};
-ghost use Rattle.lab_defs_value.specs.Tables.{first_weight};
 ghost use Rattle.lab_form.specs.Forms.{actions_in};
+ghost use Rattle.lab_table.specs.Tables.{weights_between};
 
 use super::*;
 use lab_form::{Form, FormSet, NoMemory, SetId, Span};
@@ -128,7 +128,9 @@ fn given_weights_make_a_table_or_are_refused(rt: HostRuntime) -> Result<(), Fail
 fn clear(table: &mut Table, span: Span)
     requires order { span.from ≤ span.to }
     requires end { span.to ≤ length table.old.actions }
-    ensures { table.new ≡ record { actions = table.old.actions; weights = spliced table.old.actions span.from span.to table.old.weights (replicate (first_weight table.old.actions span.to - first_weight table.old.actions span.from) 0) } }
+    ensures actions { table.new.actions ≡ table.old.actions }
+    ensures weights { table.new.weights ≡ spliced table.old.actions span.from span.to table.old.weights
+        (replicate (length (weights_between table.old span.from span.to)) 0) }
 {
     table.window_mut(span).fill(0);
 }
