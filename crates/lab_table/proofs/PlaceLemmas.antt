@@ -15,7 +15,7 @@ use Rattle.lab_table.specs.Places.{places_from, actions_for, actions_after, acti
 
 -- ---- first weights
 
--- what stands past the last set
+-- what reads as a set past the last one
 abbrev pub no_set : FormSet
 no_set = record { parent = None; actions = 0; first_weight = 0 }
 
@@ -33,13 +33,15 @@ first_le ns i j l =
 pub next_is : (ns : List ℕ) (i : ℕ) → i < length ns → first_weight ns (i + 1) ≡ first_weight ns i + weights_of (get_or ns i 0)
 next_is ns i l = first_weight_from ns i 1 ∙ ap (λ xs. first_weight ns i + first_weight xs 1) (drop_more ns i 0 l) ∙ omega arith
 
+-- there are as many numbers of actions as sets
 actions_length : (sets : List FormSet) → length (actions_in sets) ≡ length sets
 actions_length sets = length-map sets (λ (s : FormSet). s.actions)
 
--- a set's actions and its first weight are as it says
+-- the number of actions of a set is what it says
 actions_is : (sets : List FormSet) (i : ℕ) (d : FormSet) → i < length sets → get_or (actions_in sets) i 0 ≡ (get_or sets i d).actions
 actions_is sets i d l = get_or-map (λ (s : FormSet). s.actions) sets i d 0 l
 
+-- its first weight has the place that it says
 first_is : (sets : List FormSet) (i : ℕ) (d : FormSet) → AreSets sets → i < length sets → first_weight (actions_in sets) i ≡ (get_or sets i d).first_weight
 first_is sets i d ok l = ap (sum_over weights_of) (take-map (λ (s : FormSet). s.actions) i sets) ∙ sym (ok i d l).first
 

@@ -101,7 +101,7 @@ impl Table {
         &self.weights[from..to]
     }
 
-    /// The weights at the sets of a span, to be written; the table has them where they were.
+    /// The weights at the sets of a span, to be written in place.
     pub fn window_mut(&mut self, span: Span) -> &mut [u32]
         requires order { span.from ≤ span.to }
         requires end { span.to ≤ length self.old.actions }
