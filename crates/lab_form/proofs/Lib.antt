@@ -1,5 +1,6 @@
 pub mod CallerLemmas
 mod PathLemmas
+mod ModelLemmas
 mod NumberLemmas
 mod ChainLemmas
 mod DecisionLemmas

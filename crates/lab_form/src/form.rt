@@ -1,6 +1,6 @@
 //! A form with room for sets and rows.
 
-ghost use Rattle.std.specs.Prelude.{◌≡◌, ◌⊎◌, ◌<◌, ◌-◌, length, IfOk};
+ghost use Rattle.std.specs.Prelude.{◌≡◌, ◌⊎◌, ◌<◌, ◌-◌, ◌^◌, length, IfOk};
 ghost use Rattle.lab_form.specs.Forms.{
   sets_of,
   last_of,
@@ -132,6 +132,7 @@ impl Form {
         requires { (seat ≡ 1) ⊎ (seat ≡ 2) }
         ensures sets { result.now ≡ sets_of self.now seat }
         ensures order { AreSets result.now }
+        ensures few { length result.now < 2 ^ 32 }
     {
         self.seat(seat).sets()
     }

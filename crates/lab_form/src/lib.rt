@@ -7,11 +7,13 @@ mod form;
 mod items;
 mod room;
 mod seat_sets;
+mod seats;
 mod step_chains;
 
 pub use chain::Chain;
 pub use form::{Form, NoMemory};
 pub use items::{FormRow, FormSet, SetId, Span};
+pub use seats::other;
 
 #[cfg(test)]
 mod tests;

@@ -1,6 +1,6 @@
 //! The information sets of one seat, with what is found of each when it is added.
 
-ghost use Rattle.std.specs.Prelude.{◌≡◌, ◌<◌, [], length, slice_index_or, IfOk};
+ghost use Rattle.std.specs.Prelude.{◌≡◌, ◌<◌, ◌^◌, [], length, slice_index_or, IfOk};
 ghost use Rattle.lab_form.specs.Forms.{AreSets, IsNextSet, IsStepBelow};
 ghost use Rattle.lab_form.specs.Chains.{children_of, IsSetThere};
 ghost use Rattle.lab_form.specs.Decisions.{short_decision, decisions_above};
@@ -26,7 +26,7 @@ pub struct SeatSets {
 }
 
 impl Model for SeatSets {
-    ghost use Rattle.std.specs.Prelude.{◌≤◌, vec_capacity};
+    ghost use Rattle.std.specs.Prelude.{◌<◌, ◌≤◌, ◌^◌, vec_capacity};
     ghost use Rattle.lab_form.specs.Columns.{SeatValue, AreColumns};
 
     ghost Value = { SeatValue };
@@ -34,7 +34,7 @@ impl Model for SeatSets {
     ghost view = { λ s. record { sets = s.sets.items; rows = s.rows; set_room = s.set_room } };
 
     ghost invariant = { λ s. AreColumns s.sets.items s.above.items s.children s.rows s.set_room
-        × (s.set_room ≤ vec_capacity s.sets) × (s.set_room ≤ vec_capacity s.above) };
+        × (s.set_room ≤ vec_capacity s.sets) × (s.set_room ≤ vec_capacity s.above) × (s.set_room < 2 ^ 32) };
 }
 
 impl SeatSets {
@@ -96,6 +96,7 @@ impl SeatSets {
     pub fn sets(&self) -> &[FormSet]
         ensures sets { result.now ≡ self.now.sets }
         ensures order { AreSets result.now }
+        ensures few { length result.now < 2 ^ 32 }
     {
         self.sets.as_slice()
     }

@@ -6,6 +6,7 @@ pub mod SizeUnits
 pub mod SizeGadgets
 pub mod SizeWays
 pub mod SizeCounts
+pub mod SizeWeights
 pub mod SizeSums
 pub mod SizeRegrets
 pub mod SizeShares

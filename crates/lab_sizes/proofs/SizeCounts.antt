@@ -115,7 +115,7 @@ row_some g w ok a b la lb =
     omega (arith, some)
 
 -- at least as many steps lead out of a world as a seat has actions there
-steps_many : (g : GameModel) (seat : ℕ) (p : Place) → place_ok g p ≡ true → is_world p ≡ true → actions_at seat p ≤ length (steps_of p)
+pub steps_many : (g : GameModel) (seat : ℕ) (p : Place) → place_ok g p ≡ true → is_world p ≡ true → actions_at seat p ≤ length (steps_of p)
 steps_many g seat (an_end z) ok world = absurd cc
 steps_many g seat (a_world w) ok world = at (eqb seat 1)
   where

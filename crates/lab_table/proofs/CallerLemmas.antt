@@ -2,5 +2,5 @@
 
 -- a table after a window was written, in the words of the definitions
 pub use Rattle.lab_table.proofs.SpliceLemmas.{window_spliced}
--- weights that sum to the grid, in these words
-pub use Rattle.lab_table.proofs.SumLemmas.{weights_sum}
+-- weights that sum to the grid, in these words and in those of the definitions
+pub use Rattle.lab_table.proofs.SumLemmas.{weights_sum, sums_weigh}

@@ -65,7 +65,6 @@ impl Table {
         weights: &[u32],
     ) -> Result<Self, TableGiven>
         requires seat { (seat ≡ 1) ⊎ (seat ≡ 2) }
-        requires few_sets { length (sets_of form.now seat) < 2 ^ 32 }
         requires few { weight_count (sets_of form.now seat) < 2 ^ 32 }
         requires few_given { length weights.now < 2 ^ 32 }
         ensures table { IfOk result (λ t. t ≡ table_of form.now seat weights.now) }

@@ -18,4 +18,4 @@ invariant_of-self c =
     c.push-2.ensures.items c.push.ensures.items (c.add_place.ensures ∙ ap with_place (c.add.ensures ∙ ap (with_number s.children) c.step_place.ensures)) c.add_place-2.ensures in
     let sets : s.set_room ≤ vec_capacity c.push-2.new.items = omega (arith, c.self.invariant.1, c.push-2.ensures.room) in
     let above : s.set_room ≤ vec_capacity c.push.new.items = omega (arith, c.self.invariant.2, c.push.ensures.room) in
-    (columns, sets, above)
+    (columns, sets, above, c.self.invariant.3)
