@@ -1,9 +1,10 @@
 //! The mode `check`.
 use crate::cases::{Case, check, run_cases};
-use crate::dice::dice_text;
-use crate::leduc::leduc_text;
-use crate::texts::{CHAIN, DIFFERS, DOUBLING, FORGETS, GOOFSPIEL_2, LOOP, PENNIES_2, with_line};
 use lab_cli::Status;
+use lab_game_texts::{
+    CHAIN, DIFFERS, DOUBLING, FORGETS, GOOFSPIEL_2, LOOP, PENNIES_2, dice_text, leduc_text,
+    with_line,
+};
 use std::test::Fail;
 
 #[test]

@@ -1,7 +1,7 @@
 //! The mode `print`.
 use crate::cases::{Case, print, run_cases};
-use crate::texts::{PENNIES_2, PENNIES_2_EXCHANGED, PENNIES_2_SHORT, with_line};
 use lab_cli::Status;
+use lab_game_texts::{PENNIES_2, PENNIES_2_EXCHANGED, PENNIES_2_SHORT, with_line};
 use std::test::Fail;
 
 #[test]

@@ -1,10 +1,10 @@
 //! The mode `session`, and words that name no mode.
 use crate::cases::{Case, run_cases, session};
-use crate::kuhn::kuhn_text;
-use crate::texts::{
-    DIFFERS, FORK, LOOP, ONE_BY_THREE, PENNIES_2, PENNIES_2_EXCHANGED, THREE_BY_TWO, with_line,
-};
 use lab_cli::Status;
+use lab_game_texts::{
+    DIFFERS, FORK, LOOP, ONE_BY_THREE, PENNIES_2, PENNIES_2_EXCHANGED, THREE_BY_TWO, kuhn_text,
+    with_line,
+};
 use std::test::Fail;
 
 const USAGE: &str =

@@ -4,7 +4,7 @@ ghost use Rattle.lab_defs_game.specs.Unfolding.{unfold_fault};
 ghost use Rattle.lab_world.specs.Games.{game_model};
 ghost use Rattle.lab_unfold.specs.Values.{unfolded};
 
-use crate::kuhn::kuhn_text;
+use lab_game_texts::kuhn_text;
 use lab_text::read_game;
 use lab_unfold::{Histories, HistoryId, Item, Step, last_seen, unfold};
 use lab_world::{Game, WorldId};

@@ -4,7 +4,7 @@ use Rattle.std.specs.Option.{IsSome}
 use Rattle.lab_world.specs.Games.{game_model}
 use Rattle.lab_tree.proofs.CallerLemmas.{set_there}
 use Rattle.lab_tree.specs.Trees.{TreeValue, seat_of}
-use Rattle.lab_tests.proofs.trees.set_of.Goals as goal
+use Rattle.lab_game_tests.proofs.trees.set_of.Goals as goal
 
 pub set_of-requires-clause-some : goal.set_of-requires-clause-some
 set_of-requires-clause-some c =

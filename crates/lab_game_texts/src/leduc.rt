@@ -1,7 +1,6 @@
 //! Leduc poker with six cards, two of each of three ranks.
 use crate::turns::{Turn, end_name, other, push_world};
-use std::alloc::Global;
-use std::test::Fail;
+use std::alloc::{AllocError, Global};
 
 const TOKENS: &str = "\
 horizon 9
@@ -132,7 +131,7 @@ const POSITIONS: [Position; 6] = [
 const CLOSINGS: [(&str, u8); 5] = [("cc", 0), ("rc", 1), ("crc", 1), ("rrc", 2), ("crrc", 2)];
 
 /// The text of the game on a grid.
-pub fn leduc_text(alloc: Global, grid: u32) -> Result<String, Fail> {
+pub fn leduc_text(alloc: Global, grid: u32) -> Result<String, AllocError> {
     let mut text = String::new(alloc);
     write!(text, "fosg 1\ngrid {grid}\n{TOKENS}")?;
     let deals = deals(alloc)?;
@@ -143,7 +142,7 @@ pub fn leduc_text(alloc: Global, grid: u32) -> Result<String, Fail> {
 }
 
 // All deals; no rank has three cards.
-fn deals(alloc: Global) -> Result<Vec<Deal>, Fail> {
+fn deals(alloc: Global) -> Result<Vec<Deal>, AllocError> {
     let mut deals = Vec::new(alloc);
     for one in 1..4u8 {
         for two in 1..4u8 {
@@ -158,7 +157,7 @@ fn deals(alloc: Global) -> Result<Vec<Deal>, Fail> {
 }
 
 // Writes the outcomes that are the deals; a rank that no other card has can be either of two cards.
-fn push_outcomes(text: &mut String, deals: &[Deal]) -> Result<(), Fail> {
+fn push_outcomes(text: &mut String, deals: &[Deal]) -> Result<(), AllocError> {
     for deal in deals {
         let Deal { one, two, table } = *deal;
         let differ = one != two && two != table && one != table;
@@ -169,7 +168,7 @@ fn push_outcomes(text: &mut String, deals: &[Deal]) -> Result<(), Fail> {
 }
 
 // Writes the worlds behind the deals.
-fn push_hands(alloc: Global, text: &mut String, deals: &[Deal]) -> Result<(), Fail> {
+fn push_hands(alloc: Global, text: &mut String, deals: &[Deal]) -> Result<(), AllocError> {
     for deal in deals {
         push_first(alloc, text, *deal)?;
         for (closing, raises) in CLOSINGS {
@@ -180,7 +179,7 @@ fn push_hands(alloc: Global, text: &mut String, deals: &[Deal]) -> Result<(), Fa
 }
 
 // Writes the worlds of the first round.
-fn push_first(alloc: Global, text: &mut String, deal: Deal) -> Result<(), Fail> {
+fn push_first(alloc: Global, text: &mut String, deal: Deal) -> Result<(), AllocError> {
     let start = format!(in alloc; "l-{}{}{}-", deal.one, deal.two, deal.table)?;
     let round = Round {
         deal,
@@ -199,7 +198,7 @@ fn push_second(
     deal: Deal,
     closing: &str,
     raises: u8,
-) -> Result<(), Fail> {
+) -> Result<(), AllocError> {
     let start = format!(in alloc; "l-{}{}{}-{closing}-", deal.one, deal.two, deal.table)?;
     let round = Round {
         deal,
@@ -212,7 +211,7 @@ fn push_second(
 }
 
 // Writes the worlds of a round.
-fn push_round(alloc: Global, text: &mut String, round: Round) -> Result<(), Fail> {
+fn push_round(alloc: Global, text: &mut String, round: Round) -> Result<(), AllocError> {
     for position in POSITIONS {
         let turns = turns(alloc, round, position)?;
         let name = format!(in alloc; "{}{}", round.start, position.name)?;
@@ -222,7 +221,7 @@ fn push_round(alloc: Global, text: &mut String, round: Round) -> Result<(), Fail
 }
 
 // The turns of the seat that acts at a position.
-fn turns(alloc: Global, round: Round, position: Position) -> Result<Vec<Turn>, Fail> {
+fn turns(alloc: Global, round: Round, position: Position) -> Result<Vec<Turn>, AllocError> {
     let mut turns = Vec::new(alloc);
     for (action, next) in position.actions {
         turns.push(turn(alloc, round, position, action, *next)?)?;
@@ -237,7 +236,7 @@ fn turn(
     position: Position,
     action: &str,
     next: Next,
-) -> Result<Turn, Fail> {
+) -> Result<Turn, AllocError> {
     match next {
         Next::At(name) => {
             let place = format!(in alloc; "{}{name}", round.start)?;

@@ -2,7 +2,7 @@
 ghost use Rattle.std.specs.Prelude.{◌≡◌, ◌++◌, ◌∷◌, [], length, IfOk, string_bytes};
 ghost use Rattle.lab_defs_text.specs.Words.{Bytes};
 ghost use Rattle.lab_world.specs.Drafts.{draft_of, part_outcome_by, part_row_by, part_place_by, part_places_by};
-ghost use Rattle.lab_tests.specs.Tosses.{win_outcome, win_row, toss_world, toss_of};
+ghost use Rattle.lab_game_tests.specs.Tosses.{win_outcome, win_row, toss_world, toss_of};
 ghost use lib.Chars.{codes};
 
 use lab_lex::NameTable;

@@ -1,6 +1,5 @@
 //! Texts of small games.
-use std::alloc::Global;
-use std::test::Fail;
+use std::alloc::{AllocError, Global};
 
 /// Matching pennies on a grid of 2.
 pub const PENNIES_2: &str = "\
@@ -332,7 +331,12 @@ done
 ";
 
 /// A text with another line at a number, from 1.
-pub fn with_line(alloc: Global, text: &str, number: usize, line: &str) -> Result<String, Fail> {
+pub fn with_line(
+    alloc: Global,
+    text: &str,
+    number: usize,
+    line: &str,
+) -> Result<String, AllocError> {
     let mut changed = String::new(alloc);
     for (at, kept) in text.lines().enumerate() {
         changed.push_str(if at + 1 == number { line } else { kept })?;

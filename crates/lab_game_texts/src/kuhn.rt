@@ -1,7 +1,6 @@
 //! Kuhn poker with three cards, on a grid of 2.
 use crate::turns::{Turn, end_name, other, push_world};
-use std::alloc::Global;
-use std::test::Fail;
+use std::alloc::{AllocError, Global};
 
 const START: &str = "\
 fosg 1
@@ -55,7 +54,7 @@ const POSITIONS: [(&str, u8, [(&str, Next); 2]); 4] = [
 ];
 
 /// The text of the game.
-pub fn kuhn_text(alloc: Global) -> Result<String, Fail> {
+pub fn kuhn_text(alloc: Global) -> Result<String, AllocError> {
     let mut text = String::from_str(alloc, START)?;
     for (one, two) in DEALS {
         write!(text, "to 1 k-{one}-{two}-0 c{one} c{two} -\n")?;
@@ -68,7 +67,7 @@ pub fn kuhn_text(alloc: Global) -> Result<String, Fail> {
 }
 
 // Writes the worlds behind a deal.
-fn push_deal(alloc: Global, text: &mut String, one: u8, two: u8) -> Result<(), Fail> {
+fn push_deal(alloc: Global, text: &mut String, one: u8, two: u8) -> Result<(), AllocError> {
     for (position, seat, actions) in POSITIONS {
         let mut turns = Vec::new(alloc);
         for (action, next) in actions {
@@ -82,7 +81,7 @@ fn push_deal(alloc: Global, text: &mut String, one: u8, two: u8) -> Result<(), F
 }
 
 // The place that a seat's action leads to.
-fn place(alloc: Global, one: u8, two: u8, seat: u8, next: Next) -> Result<String, Fail> {
+fn place(alloc: Global, one: u8, two: u8, seat: u8, next: Next) -> Result<String, AllocError> {
     match next {
         Next::At(position) => Ok(format!(in alloc; "k-{one}-{two}-{position}")?),
         Next::Fold => end_name(alloc, other(seat), 1),

@@ -4,7 +4,7 @@ use Rattle.lab_defs_text.specs.Texts.{is_world, place_at}
 use Rattle.lab_world.specs.Games.{game_model}
 use Rattle.lab_unfold.proofs.CallerLemmas.{here_below, read_here}
 use Rattle.lab_unfold.specs.declared.history.History.{History}
-use Rattle.lab_tests.proofs.trees.inner_at.Goals as goal
+use Rattle.lab_game_tests.proofs.trees.inner_at.Goals as goal
 
 pub returns-clause-there : goal.returns-clause-there
 returns-clause-there c = here_below (game_model c.args.game.now) c.args.histories.now c.in_ok-history.history.0 c.requires c.in_ok-history.ensures

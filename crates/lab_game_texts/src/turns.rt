@@ -1,6 +1,5 @@
 //! Lines of games in which one seat acts at a time.
-use std::alloc::Global;
-use std::test::Fail;
+use std::alloc::{AllocError, Global};
 
 /// An action, the place that it leads to, and the token that it shows to all.
 #[derive(Drop)]
@@ -12,7 +11,12 @@ pub struct Turn {
 
 impl Turn {
     /// The turn of an action, with a place and a token.
-    pub fn new(alloc: Global, action: &str, place: String, token: &str) -> Result<Turn, Fail> {
+    pub fn new(
+        alloc: Global,
+        action: &str,
+        place: String,
+        token: &str,
+    ) -> Result<Turn, AllocError> {
         Ok(Turn {
             action: String::from_str(alloc, action)?,
             place,
@@ -27,7 +31,7 @@ pub fn other(seat: u8) -> u8 {
 }
 
 /// The name of the end where a seat wins a stake; the seat 0 is for neither.
-pub fn end_name(alloc: Global, seat: u8, stake: u32) -> Result<String, Fail> {
+pub fn end_name(alloc: Global, seat: u8, stake: u32) -> Result<String, AllocError> {
     Ok(match seat {
         0 => String::from_str(alloc, "e-0")?,
         1 => format!(in alloc; "e-{stake}")?,
@@ -36,7 +40,12 @@ pub fn end_name(alloc: Global, seat: u8, stake: u32) -> Result<String, Fail> {
 }
 
 /// Writes a world where a seat has turns and the other one passes.
-pub fn push_world(text: &mut String, name: &str, seat: u8, turns: &[Turn]) -> Result<(), Fail> {
+pub fn push_world(
+    text: &mut String,
+    name: &str,
+    seat: u8,
+    turns: &[Turn],
+) -> Result<(), AllocError> {
     write!(text, "world {name}\n")?;
     if seat == 1 {
         push_actions(text, "one", turns)?;
@@ -51,7 +60,7 @@ pub fn push_world(text: &mut String, name: &str, seat: u8, turns: &[Turn]) -> Re
     Ok(())
 }
 
-fn push_actions(text: &mut String, head: &str, turns: &[Turn]) -> Result<(), Fail> {
+fn push_actions(text: &mut String, head: &str, turns: &[Turn]) -> Result<(), AllocError> {
     text.push_str(head)?;
     for turn in turns {
         write!(text, " {}", turn.action)?;
@@ -60,7 +69,7 @@ fn push_actions(text: &mut String, head: &str, turns: &[Turn]) -> Result<(), Fai
     Ok(())
 }
 
-fn push_turn(text: &mut String, seat: u8, turn: &Turn) -> Result<(), Fail> {
+fn push_turn(text: &mut String, seat: u8, turn: &Turn) -> Result<(), AllocError> {
     if seat == 1 {
         write!(text, "row {} .\n", turn.action)?;
     } else {

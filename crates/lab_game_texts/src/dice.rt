@@ -1,7 +1,6 @@
 //! Liar's dice with one die each of two faces: bids 1 and 2 claim one die of that face, 3 and 4 two dice of face 1 and 2.
 use crate::turns::{Turn, end_name, other, push_world};
-use std::alloc::Global;
-use std::test::Fail;
+use std::alloc::{AllocError, Global};
 
 const START: &str = "\
 fosg 1
@@ -49,7 +48,7 @@ const BIDS: [(u8, u8); 8] = [
 ];
 
 /// The text of the game.
-pub fn dice_text(alloc: Global) -> Result<String, Fail> {
+pub fn dice_text(alloc: Global) -> Result<String, AllocError> {
     let mut text = String::from_str(alloc, START)?;
     for (one, two) in FACES {
         for (last, seat) in BIDS {
@@ -63,7 +62,7 @@ pub fn dice_text(alloc: Global) -> Result<String, Fail> {
 }
 
 // A seat's turns behind a bid: the higher bids, and to doubt it.
-fn turns(alloc: Global, one: u8, two: u8, last: u8, seat: u8) -> Result<Vec<Turn>, Fail> {
+fn turns(alloc: Global, one: u8, two: u8, last: u8, seat: u8) -> Result<Vec<Turn>, AllocError> {
     let mut turns = Vec::new(alloc);
     for bid in 1..5u8 {
         if last < bid {
