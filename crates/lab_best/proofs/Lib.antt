@@ -1,0 +1,11 @@
+pub mod CallerLemmas
+mod NumberLemmas
+mod WeightLemmas
+mod SmallFormLemmas
+mod FoundLemmas
+mod BackedSizes
+mod BestLemmas
+mod ThroughLemmas
+mod FormLemmas
+mod SizeLemmas
+mod GreatestLemmas

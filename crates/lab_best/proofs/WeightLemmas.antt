@@ -1,0 +1,177 @@
+-- Weights on a path, from its last step back.
+use Rattle.std.proofs.Common.{◌≡◌, ℕ, zero, suc, ◌+◌, ◌*◌, ◌-◌, ◌^◌, ◌<◌, ◌≤◌, Bool, true, false, cond, List, [], ◌∷◌, ◌++◌, drop, length, get_or, Option, Some, None, refl, sym, ap, ◌∙◌, subst, arith, mul-le-mul, pow-suc, pow-add}
+use Rattle.std.proofs.Math.Nat.{one-le-pow}
+use Rattle.std.specs.Prelude.{nat_le, slice_index}
+use Rattle.std.specs.Option.{option_map}
+use Rattle.std.proofs.lemmas.Bool.{le-leb}
+use Rattle.std.proofs.lemmas.List.{get_or-map, length-map, take-map, drop_more}
+use native.Mathlib.Nat.{le_of_eq, pow-zero}
+use Rattle.lab_math.specs.Sums.{sum_over, product_over}
+use Rattle.lab_math.proofs.BelowLemmas.{sum_below_term}
+use Rattle.lab_defs_game.specs.Paths.{SetAction}
+use Rattle.lab_defs_game.specs.Forms.{decides, deciding}
+use Rattle.lab_defs_game.specs.Forms as model
+use Rattle.lab_defs_game.proofs.FormLemmas.{count_push}
+use Rattle.lab_defs_value.specs.Tables.{weights_of, first_weight, factor}
+use Rattle.lab_defs_value.specs.Parents as value
+use Rattle.lab_defs_value.proofs.WholeLaw.{product_push}
+use Rattle.lab_defs_value.proofs.SubgameRows.{first_weight_from}
+use Rattle.lab_form.specs.declared.items.SetId.{SetId}
+use Rattle.lab_form.specs.declared.items.FormSet.{FormSet}
+use Rattle.lab_form.specs.Forms.{IsStepBelow, actions_in, taken_model, sets_model, whole_path}
+use Rattle.lab_form.specs.Columns.{place_of_step}
+use Rattle.lab_form.proofs.CallerLemmas.{chain_step, model_length, model_parent, parents_below, step_there}
+use Rattle.lab_table.proofs.CallerLemmas.{weights_sum}
+use Rattle.lab_best.specs.Rows.{path_weight, path_factors, set_at, step_weight, HasWeight, IsPlayed}
+
+-- what reads as a set past the last one
+abbrev pub no_set : FormSet
+no_set = record { parent = None; actions = 0; first_weight = 0 }
+
+-- ---- one step
+
+-- the weights of a set end before those of all do
+weights_end : (ns : List ℕ) (i : ℕ) → i < length ns → first_weight ns i + weights_of (get_or ns i 0) ≤ first_weight ns (length ns)
+weights_end ns i l =
+    let rest : i + (length ns - i) ≡ length ns = omega (arith, l) in
+    let next : length ns - i ≡ suc (length ns - (i + 1)) = omega (arith, l) in
+    let own : first_weight (drop i ns) (length ns - i) ≡ first_weight (get_or ns i 0 ∷ drop (i + 1) ns) (suc (length ns - (i + 1))) = ap (λ xs. first_weight xs (length ns - i)) (drop_more ns i 0 l) ∙ ap (first_weight (get_or ns i 0 ∷ drop (i + 1) ns)) next in
+    omega (arith, first_weight_from ns i (length ns - i), ap (first_weight ns) rest, own)
+
+module _ (grid : ℕ) (sets : List FormSet) (table : List ℕ) (ok : IsPlayed grid sets table) (t : SetId × ℕ) (there : IsStepBelow sets (Some t)) where
+  actions_is : get_or (actions_in sets) t.0.0 0 ≡ (set_at sets t.0.0).actions
+  actions_is = get_or-map (λ (s : FormSet). s.actions) sets t.0.0 no_set 0 there.0
+
+  -- its first weight has the place that it says
+  first_is : first_weight (actions_in sets) t.0.0 ≡ (set_at sets t.0.0).first_weight
+  first_is = ap (sum_over weights_of) (take-map (λ (s : FormSet). s.actions) t.0.0 sets) ∙ sym (ok.order t.0.0 no_set there.0).first
+
+  -- the weight of the step is among all
+  pub weight_there : HasWeight sets table t
+  weight_there two =
+      let own : weights_of (get_or (actions_in sets) t.0.0 0) ≡ (set_at sets t.0.0).actions = ap weights_of actions_is ∙ ap (λ b. cond b (set_at sets t.0.0).actions 0) (le-leb 2 (set_at sets t.0.0).actions two) in
+      let l : t.0.0 < length (actions_in sets) = omega (arith, there.0, length-map sets (λ (s : FormSet). s.actions)) in
+      let action : t.1 < (set_at sets t.0.0).actions = omega (arith, there.1, actions_is) in
+      omega (arith, weights_end (actions_in sets) t.0.0 l, ok.weights.count, own, first_is, action)
+
+  -- the factor of the step, as the set has it
+  pub factor_is : factor (actions_in sets) table (taken_model t) ≡ step_weight sets table t
+  factor_is = ap (λ n. cond (nat_le 2 n) (get_or table (first_weight (actions_in sets) t.0.0 + t.1) 0) 1) actions_is ∙ ap (λ k. cond (nat_le 2 (set_at sets t.0.0).actions) (get_or table (k + t.1) 0) 1) first_is
+
+  -- it is at most the grid where the set decides, and else 1
+  factor_most : (b : Bool) → decides (actions_in sets) t.0.0 ≡ b → factor (actions_in sets) table (taken_model t) ≤ grid ^ cond b 1 0
+  factor_most true e =
+      let l : t.0.0 < length (actions_in sets) = omega (arith, there.0, length-map sets (λ (s : FormSet). s.actions)) in
+      let own : factor (actions_in sets) table (taken_model t) ≡ slice_index table (first_weight (actions_in sets) t.0.0 + t.1) = ap (λ b. cond b (slice_index table (first_weight (actions_in sets) t.0.0 + t.1)) 1) e in
+      let sums = weights_sum grid (actions_in sets) table ok.weights t.0.0 l e in
+      let term = sum_below_term (slice_index (actions_in sets) t.0.0) t.1 (λ a. slice_index table (first_weight (actions_in sets) t.0.0 + a)) there.1 in
+      let one : grid ^ 1 ≡ grid = pow-suc grid 0 ∙ ap (λ x. x * grid) (pow-zero grid) ∙ omega arith in
+      omega (arith, own, sums, term, one)
+  factor_most false e =
+      let own : factor (actions_in sets) table (taken_model t) ≡ 1 = ap (λ b. cond b (slice_index table (first_weight (actions_in sets) t.0.0 + t.1)) 1) e in
+      omega (arith, own, pow-zero grid)
+
+  -- ---- the path that ends with the step
+
+  -- it is the path that ends with the parent of its set, with the step
+  path_is : whole_path sets (Some t) ≡ whole_path sets (set_at sets t.0.0).parent ++ taken_model t ∷ []
+  path_is =
+      chain_step (sets_model sets) (taken_model t) (parents_below sets ok.order) (omega (arith, there.0, model_length sets))
+      ∙ ap (λ o. model.chain (sets_model sets) o ++ taken_model t ∷ []) (model_parent sets t.0.0 no_set there.0)
+
+  -- the step that it follows is there
+  pub parent_there : IsStepBelow sets (set_at sets t.0.0).parent × (place_of_step (set_at sets t.0.0).parent < suc t.0.0)
+  parent_there = above (set_at sets t.0.0).parent (step_there t.0.0 sets (set_at sets t.0.0).parent (omega (arith, there.0)) (ok.order t.0.0 no_set there.0).parent)
+    where
+      above : (o : Option (SetId × ℕ)) → value.IsStepBelow (actions_in sets) t.0.0 (option_map taken_model o) → IsStepBelow sets o × (place_of_step o < suc t.0.0)
+      above None h = (tt, omega arith)
+      above (Some u) h = ((omega (arith, h.0, there.0), h.1), omega (arith, h.0))
+
+  -- a weight with that of the step, and the path to the parent, come to as much as the weight and the path to the step
+  pub walk_value : (weight own : ℕ) → own ≡ step_weight sets table t
+      → (weight * own) * product_over (factor (actions_in sets) table) (whole_path sets (set_at sets t.0.0).parent) ≡ weight * product_over (factor (actions_in sets) table) (whole_path sets (Some t))
+  walk_value weight own e =
+      let rest = product_over (factor (actions_in sets) table) (whole_path sets (set_at sets t.0.0).parent) in
+      let whole : product_over (factor (actions_in sets) table) (whole_path sets (Some t)) ≡ rest * own =
+      ap (product_over (factor (actions_in sets) table)) path_is ∙ product_push (factor (actions_in sets) table) (whole_path sets (set_at sets t.0.0).parent) (taken_model t) ∙ ap (λ x. rest * x) (factor_is ∙ sym e) in
+      regroup weight own rest ∙ sym (ap (λ x. weight * x) whole)
+    where
+      regroup : (w x r : ℕ) → (w * x) * r ≡ w * (r * x)
+      regroup w x r = omega arith
+
+  -- and are as small
+  pub walk_small : (weight own : ℕ) → own ≡ step_weight sets table t
+      → (weight * own) * grid ^ deciding (actions_in sets) (whole_path sets (set_at sets t.0.0).parent) ≤ weight * grid ^ deciding (actions_in sets) (whole_path sets (Some t))
+  walk_small weight own e =
+      let before = deciding (actions_in sets) (whole_path sets (set_at sets t.0.0).parent) in
+      let one = cond (decides (actions_in sets) t.0.0) (suc zero) zero in
+      let count : deciding (actions_in sets) (whole_path sets (Some t)) ≡ before + one =
+      ap (deciding (actions_in sets)) path_is ∙ count_push (λ (u : SetAction). decides (actions_in sets) u.set) (whole_path sets (set_at sets t.0.0).parent) (taken_model t) in
+      let power : grid ^ deciding (actions_in sets) (whole_path sets (Some t)) ≡ grid ^ before * grid ^ one = ap (λ k. grid ^ k) count ∙ pow-add grid before one in
+      let most : own ≤ grid ^ one = subst (λ x. x ≤ grid ^ one) (factor_is ∙ sym e) (factor_most (decides (actions_in sets) t.0.0) refl) in
+      let le : (weight * own) * grid ^ before ≤ (weight * grid ^ one) * grid ^ before = mul-le-mul (mul-le-mul (le_of_eq refl) most) (le_of_eq refl) in
+      omega (arith, le, regroup weight (grid ^ one) (grid ^ before), ap (λ x. weight * x) power)
+    where
+      regroup : (w x r : ℕ) → (w * x) * r ≡ w * (r * x)
+      regroup w x r = omega arith
+
+-- ---- the whole path
+
+-- no path ends with no step
+path_none : (sets : List FormSet) → whole_path sets None ≡ []
+path_none sets = at (length (sets_model sets))
+  where
+    at : (n : ℕ) → model.chain_within (sets_model sets) n None ≡ []
+    at zero = refl
+    at (suc n) = refl
+
+-- where a walk begins, the pads and the path come to the weight of the path
+pub walk_begins : (grid : ℕ) (sets : List FormSet) (table : List ℕ) (step : Option (SetId × ℕ)) (pad : ℕ)
+    → ((grid ^ pad) * product_over (factor (actions_in sets) table) (whole_path sets step) ≡ path_weight grid sets table step pad)
+    × ((grid ^ pad) * grid ^ deciding (actions_in sets) (whole_path sets step) ≤ grid ^ path_factors sets step pad)
+walk_begins grid sets table step pad =
+    let n = deciding (actions_in sets) (whole_path sets step) in
+    let p = product_over (factor (actions_in sets) table) (whole_path sets step) in
+    let power : grid ^ (n + pad) ≡ grid ^ n * grid ^ pad = pow-add grid n pad in
+    (omega arith, omega (arith, power))
+
+-- where it ends, the weight is the whole
+pub walk_ends : (grid : ℕ) (sets : List FormSet) (table : List ℕ) (weight : ℕ)
+    → (weight * product_over (factor (actions_in sets) table) (whole_path sets None) ≡ weight) × (weight * grid ^ deciding (actions_in sets) (whole_path sets None) ≡ weight)
+walk_ends grid sets table weight =
+    let none = path_none sets in (
+      ap (λ path. weight * product_over (factor (actions_in sets) table) path) none ∙ omega arith,
+      ap (λ path. weight * grid ^ deciding (actions_in sets) path) none ∙ ap (λ x. weight * x) (pow-zero grid) ∙ omega arith,
+    )
+
+-- a weight is at most itself by a power of a grid
+pub weight_within : (grid weight n : ℕ) → 1 ≤ grid → weight ≤ weight * grid ^ n
+weight_within grid weight n least =
+    let one : 1 ≤ grid ^ n = one-le-pow n grid least in
+    let le : weight * 1 ≤ weight * grid ^ n = mul-le-mul (le_of_eq refl) one in
+    omega (arith, le)
+
+-- ---- a step back in a walk
+
+-- what is known of it: the step that it goes on with is there and lower, and weight and path come to as much and stay as small
+pub record IsWalkStep (grid : ℕ) (sets : List FormSet) (table : List ℕ) (step parent : Option (SetId × ℕ)) (weight own : ℕ) : Type 0 where
+  pub below : IsStepBelow sets parent
+  pub lower : place_of_step parent < place_of_step step
+  pub value : (weight * own) * product_over (factor (actions_in sets) table) (whole_path sets parent) ≡ weight * product_over (factor (actions_in sets) table) (whole_path sets step)
+  pub small : (weight * own) * grid ^ deciding (actions_in sets) (whole_path sets parent) ≤ weight * grid ^ deciding (actions_in sets) (whole_path sets step)
+  pub within : weight * own ≤ weight * grid ^ deciding (actions_in sets) (whole_path sets step)
+
+-- a walk goes on with the parent of the set of a step
+pub walk_step : (grid : ℕ) (sets : List FormSet) (table : List ℕ) → IsPlayed grid sets table → (t : SetId × ℕ) (step : Option (SetId × ℕ)) (weight own : ℕ) → step ≡ Some t → IsStepBelow sets step → own ≡ step_weight sets table t
+    → IsWalkStep grid sets table step (set_at sets t.0.0).parent weight own
+walk_step grid sets table ok t step weight own e b w =
+    let there : IsStepBelow sets (Some t) = subst (IsStepBelow sets) e b in
+    let parent = parent_there grid sets table ok t there in
+    let small = walk_small grid sets table ok t there weight own w in
+    subst (λ o. IsWalkStep grid sets table o (set_at sets t.0.0).parent weight own) (sym e) record {
+      below = parent.0;
+      lower = parent.1;
+      value = walk_value grid sets table ok t there weight own w;
+      small = small;
+      within = omega (arith, small, weight_within grid (weight * own) (deciding (actions_in sets) (whole_path sets (set_at sets t.0.0).parent)) ok.least);
+    }

@@ -1,0 +1,49 @@
+//! What two strategies bring on average.
+
+ghost use Rattle.std.specs.Prelude.{◌≡◌, ◌≤◌, ◌^◌, slice_index};
+ghost use Rattle.std.specs.Int.RustNames.{unsigned_abs};
+ghost use Rattle.lab_defs_value.specs.Expectation.{expectation};
+ghost use Rattle.lab_defs_value.specs.Smallness.{IsSmall};
+ghost use Rattle.lab_form.specs.Forms.{form_model};
+ghost use Rattle.lab_best.specs.Rows.{row_term, IsPlayed, IsSmallTerm};
+ghost use Rattle.lab_table.specs.Tables.{seat_actions, AreWeights};
+
+use super::worth::{plus, row_weight, weigh};
+use lab_form::{Form, FormRow, FormSet};
+use lab_units::Worth;
+
+/// What seat 1 expects where both seats play these weights, each on its grid: the sum over all rows of the worth times both seats'
+/// weights on the row, a seat's grid standing for each decision that the row lacks.
+pub fn expect(form: &Form, grids: [u32; 2], one: &[u32], two: &[u32]) -> Worth
+    requires small { IsSmall (slice_index grids 0) (slice_index grids 1) (form_model form.now) }
+    requires one { AreWeights (slice_index grids 0) (seat_actions form.now 1) one.now }
+    requires two { AreWeights (slice_index grids 1) (seat_actions form.now 2) two.now }
+    ensures { result.0 ≡ expectation (slice_index grids 0) (slice_index grids 1) (form_model form.now) one.now two.now }
+{
+    let (sets_one, sets_two) = (form.sets(1), form.sets(2));
+    let mut sum = Worth(0);
+    for row in form.rows() {
+        sum = plus(sum, row_term(sets_one, sets_two, grids, one, two, row));
+    }
+    sum
+}
+
+/// What a row is worth to seat 1 by the weights of both seats.
+fn row_term(
+    sets_one: &[FormSet],
+    sets_two: &[FormSet],
+    grids: [u32; 2],
+    one: &[u32],
+    two: &[u32],
+    row: &FormRow,
+) -> Worth
+    requires one { IsPlayed (slice_index grids 0) sets_one.now one.now }
+    requires two { IsPlayed (slice_index grids 1) sets_two.now two.now }
+    requires small { IsSmallTerm (slice_index grids 0) (slice_index grids 1) sets_one.now sets_two.now row.now }
+    ensures value { result.0 ≡ row_term (slice_index grids 0) (slice_index grids 1) sets_one.now sets_two.now one.now two.now row.now }
+    ensures within { unsigned_abs result.0 ≤ 2 ^ 77 }
+{
+    let weight_one = row_weight(sets_one, 1, grids[0], one, row);
+    let weight_two = row_weight(sets_two, 2, grids[1], two, row);
+    weigh(row.worth, weight_one * weight_two)
+}

@@ -1,0 +1,81 @@
+//! What a row is worth by weights.
+
+ghost use Rattle.std.specs.Prelude.{◌≡◌, ◌*◌, ◌^◌, ◌+◌, ◌<◌, ◌≤◌, pos, ◌+ℤ◌, ◌*ℤ◌, length, replicate};
+ghost use Rattle.std.specs.Int.RustNames.{unsigned_abs};
+ghost use Rattle.lab_form.specs.Forms.{last_of};
+ghost use Rattle.lab_defs_game.specs.Seats.{other};
+ghost use Rattle.lab_defs_value.specs.Replies.{worth_to};
+ghost use Rattle.lab_best.specs.Rows.{pads_of, row_weight, row_factors, row_worth, IsPlayed, IsSmallRow};
+
+use super::weight::path_weight;
+use lab_form::{FormRow, FormSet, SetId};
+use lab_units::Worth;
+
+/// The weights of a seat, 1 or 2, on a row, its grid of `d` standing for each decision that the row lacks.
+pub fn row_weight(sets: &[FormSet], seat: u32, d: u32, weights: &[u32], row: &FormRow) -> u128
+    requires played { IsPlayed d sets.now weights.now }
+    requires small { IsSmallRow seat d sets.now row.now }
+    ensures value { result ≡ row_weight d seat sets.now weights.now row.now }
+    ensures within { result ≤ d ^ row_factors seat sets.now row.now }
+{
+    path_weight(sets, d, weights, last_of(row, seat), pads_of(row, seat))
+}
+
+/// The last step of a seat, 1 or 2, on a row.
+pub fn last_of(row: &FormRow, seat: u32) -> Option<(SetId, u32)>
+    ensures { result ≡ last_of row.now seat }
+{
+    let [one, two] = row.last;
+    if seat == 1 { one } else { two }
+}
+
+/// How many factors of the grid a seat, 1 or 2, still brings to a row.
+fn pads_of(row: &FormRow, seat: u32) -> u32
+    ensures { result ≡ pads_of row.now seat }
+{
+    let [one, two] = row.pads;
+    if seat == 1 { one } else { two }
+}
+
+/// A worth, times a weight.
+pub fn weigh(worth: Worth, weight: u128) -> Worth
+    requires weight { weight ≤ 2 ^ 77 }
+    requires product { unsigned_abs worth.0 * weight ≤ 2 ^ 77 }
+    ensures { result.0 ≡ worth.0 *ℤ pos weight }
+{
+    Worth(worth.0 * weight as i128)
+}
+
+/// What a row is worth to the keeper's opponent, by the keeper's weights on a grid of `d`.
+pub fn row_worth(sets: &[FormSet], keeper: u32, d: u32, weights: &[u32], row: &FormRow) -> Worth
+    requires played { IsPlayed d sets.now weights.now }
+    requires small { IsSmallRow keeper d sets.now row.now }
+    ensures value { result.0 ≡ row_worth keeper d sets.now weights.now row.now }
+    ensures within { unsigned_abs result.0 ≤ 2 ^ 77 }
+{
+    let weight = row_weight(sets, keeper, d, weights, row);
+    weigh(to_opponent(row.worth, keeper), weight)
+}
+
+/// What is worth so much to seat 1, to the opponent of the keeper, seat 1 or 2.
+fn to_opponent(worth: Worth, keeper: u32) -> Worth
+    requires { unsigned_abs worth.0 ≤ 2 ^ 77 }
+    ensures { result.0 ≡ worth_to (other keeper) worth.0 }
+{
+    if keeper == 1 { Worth(-worth.0) } else { worth }
+}
+
+/// Makes all worths zero.
+pub fn set_to_zero(worths: &mut [Worth])
+    ensures { worths.new ≡ replicate (length worths.old) (record { 0 = pos 0 }) }
+{
+    worths.fill(Worth(0));
+}
+
+/// The sum of two worths.
+pub fn plus(one: Worth, two: Worth) -> Worth
+    requires { unsigned_abs one.0 + unsigned_abs two.0 < 2 ^ 127 }
+    ensures { result.0 ≡ one.0 +ℤ two.0 }
+{
+    Worth(one.0 + two.0)
+}
