@@ -1,0 +1,3 @@
+mod WeightSizes
+mod BackedSizes
+mod SearchLemmas
