@@ -65,7 +65,7 @@ sets_read : (g : GameModel) (seat i : ℕ) (d : FormSet) → i < length (sets g 
 sets_read g seat i d l = ap (λ ss. get_or ss i d) (formed_sets_are g seat) ∙ get_or-map (set_of g seat) (sets g seat) i [] d l
 
 -- a step is what it becomes and was
-step_same : (o : Option SetAction) → option_map taken_model (option_map taken_in o) ≡ o
+pub step_same : (o : Option SetAction) → option_map taken_model (option_map taken_in o) ≡ o
 step_same None = refl
 step_same (Some t) = refl
 
@@ -126,7 +126,7 @@ module _ (g : GameModel) (seat : ℕ) (is : IsSeat seat) (alike : AlikeNames g s
       take_all ss n e = ap (λ k. take k ss) (sym e) ∙ take-length ss
 
   -- of a terminal history the last set is that which it follows
-  end_last : game_ok g ≡ true → (h : model.History) → In h (ends_by_nodes g) → option_map taken_in (parent g seat (seen g seat h)) ≡ Some (last_in g seat h)
+  pub end_last : game_ok g ≡ true → (h : model.History) → In h (ends_by_nodes g) → option_map taken_in (parent g seat (seen g seat h)) ≡ Some (last_in g seat h)
   end_last ok h i = at (history_cases g h (end_there g h i).0)
     where
       at : (h ≡ []) ⊎ Longer g (model.histories g) h → option_map taken_in (parent g seat (seen g seat h)) ≡ Some (last_in g seat h)

@@ -27,3 +27,8 @@ mod GroupLaws
 mod WaySets
 mod ItemLaws
 mod PathLaws
+mod SubformLemmas
+mod SubformSets
+mod RowRanges
+mod SubgameLemmas
+mod SubgameLaws

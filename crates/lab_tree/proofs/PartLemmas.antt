@@ -1,28 +1,32 @@
 -- The parts of the tree of a game.
 use Rattle.std.proofs.Common.{◌≡◌, ℕ, ◌<◌, ◌≤◌, List, [], ◌∷◌, length, get_or, map, None, refl, sym, ap, ◌∙◌, arith, inl, inr, ◌⊎◌, subst}
 use Rattle.std.proofs.lemmas.List.{get_or-map, length-map}
+use Rattle.std.specs.Ordering.{is_lt}
+use Rattle.lab_defs_game.specs.Keys.{list_cmp}
 use Rattle.lab_defs_text.specs.Games.{GameModel}
 use Rattle.lab_defs_text.specs.Texts.{is_world}
 use Rattle.lab_defs_game.specs.Histories.{History, histories, inner_histories, place_of}
 use Rattle.lab_defs_game.specs.Laws.{AlikeNames}
 use Rattle.lab_defs_game.specs.Nodes as nodes
 use Rattle.lab_defs_game.specs.Recall.{recall_fault}
-use Rattle.lab_defs_game.specs.Sets.{seen, set_cmp, sets}
+use Rattle.lab_defs_game.specs.Sets.{publics, seen, set_cmp, sets}
 use Rattle.lab_defs_game.specs.Unfolding.{unfold_fault}
+use Rattle.lab_defs_game.proofs.GameLemmas.{nodes_ascending}
 use Rattle.lab_defs_game.proofs.KeyLemmas.{length_merged}
-use Rattle.lab_defs_game.proofs.NumberLemmas.{count_le_length, length-filter}
+use Rattle.lab_defs_game.proofs.NumberLemmas.{count_le_length, length-filter, number_at}
+use Rattle.lab_defs_game.proofs.Orders.{list_total}
 use Rattle.lab_defs_game.proofs.RecallLemmas.{recall_law}
 use Rattle.lab_unfold.specs.Values.{history_in, unfolded}
 use Rattle.lab_tree.specs.SetValues.{sets_in}
 use Rattle.lab_defs_game.specs.Accepted.{IsAccepted}
-use Rattle.lab_tree.specs.TreeParts.{AreParts, AreSeatParts, parts_in, paths_in, seat_with, tree_with}
+use Rattle.lab_tree.specs.TreeParts.{AreParts, AreSeatParts, IsSpan, parts_in, paths_in, seat_with, tree_with}
 use Rattle.lab_tree.specs.NodeValues.{nodes_in, parent_node, without_last}
 use Rattle.lab_tree.specs.WayLaws.{tree_sets, AreStarts, AreParents, IsParentNode}
-use Rattle.lab_tree.proofs.NodeLemmas.{last_split}
+use Rattle.lab_tree.proofs.NodeLemmas.{end_within, last_split}
 use Rattle.lab_tree.proofs.PathLaws.{paths_law}
 use Rattle.lab_tree.proofs.SetLaws.{at_nodes_law}
 use Rattle.lab_tree.proofs.GroupLaws.{grouped_law}
-use Rattle.lab_tree.proofs.SpanLemmas.{starts_long, start_read}
+use Rattle.lab_tree.proofs.SpanLemmas.{count_images, starts_long, start_read}
 use Rattle.lab_tree.proofs.WayLaws.{way_law}
 use Rattle.lab_tree.specs.Paths.{ArePaths, HavePaths}
 use Rattle.lab_tree.specs.Places.{item_of, AreAtNodes}
@@ -50,6 +54,14 @@ sets_few g seat =
       count_le_length (λ (h : History). is_world (place_of g h)) (histories g),
     )
 
+-- the sets inside a subgame are some of the seat's
+spans_within : (g : GameModel) (seat : ℕ) (node : List ℕ) → IsSpan (length (sets_in g seat).sets) (span_in g seat node)
+spans_within g seat node =
+    let within = end_within (map publics (sets g seat)) node in
+    let before = count_images (λ p. is_lt (list_cmp p node)) publics (sets g seat) in
+    let inside = count_images (nodes.begins node) publics (sets g seat) in
+    (omega arith, omega (arith, within, before, inside, length-map (sets g seat) publics, length-map (sets g seat) (set_in g seat)))
+
 -- the parts of a seat
 seat_parts : (g : GameModel) (seat : ℕ) → IsAccepted g → AreSeatParts (length (map (history_in g) (histories g))) (length (nodes.nodes g)) (sets_in g seat)
 seat_parts g seat ok = record {
@@ -57,6 +69,9 @@ seat_parts g seat ok = record {
   node_sets = length-map (nodes.nodes g) (λ p. map (set_in g seat) (nodes.node_sets g seat p));
   spans = length-map (nodes.nodes g) (span_in g seat);
   few = omega (arith, length-map (sets g seat) (set_in g seat), sets_few g seat, histories_few g ok.unfolds);
+  inside = λ n l.
+      let low : n < length (nodes.nodes g) = omega (arith, l, length-map (nodes.nodes g) (span_in g seat)) in
+      subst (IsSpan (length (sets_in g seat).sets)) (sym (get_or-map (span_in g seat) (nodes.nodes g) n [] (record { from = 0; to = 0 }) low)) (spans_within g seat (get_or (nodes.nodes g) n []));
 }
 
 -- the sets of a seat start at their nodes
@@ -109,6 +124,8 @@ pub parts_are : (g : GameModel) → IsAccepted g → AreParts (parts_in g)
 parts_are g ok = record {
   node_of = length-map (histories g) (λ h. node_id (nodes.node_of g h)) ∙ sym (length-map (histories g) (history_in g));
   parents = length-map (nodes.nodes g) (parent_node g);
+  ends = refl;
+  after = λ n l. omega (arith, number_at list_cmp list_total (nodes.nodes g) n [] (nodes_ascending g) l);
   paths1 = seat_paths g 1;
   paths2 = seat_paths g 2;
   one = seat_parts g 1 ok;

@@ -101,7 +101,7 @@ module _ {X Y : Type 0} (F : X → List Y) where
 -- ---- reading parts
 
 -- what is left of what is left
-drop_twice : {X : Type 0} (n m : ℕ) (xs : List X) → drop n (drop m xs) ≡ drop (m + n) xs
+pub drop_twice : {X : Type 0} (n m : ℕ) (xs : List X) → drop n (drop m xs) ≡ drop (m + n) xs
 drop_twice n zero xs = let none : 0 + n ≡ n = omega arith in sym (ap (λ k. drop k xs) none)
 drop_twice {X} n (suc m) [] = drop_of_length-le {A = X} [] (omega arith) ∙ sym (drop_of_length-le {A = X} [] (omega arith))
 drop_twice n (suc m) (x ∷ xs) = let on : suc m + n ≡ suc (m + n) = omega arith in drop_twice n m xs ∙ sym (ap (λ k. drop k (x ∷ xs)) on)

@@ -39,7 +39,7 @@ count_images p f [] = refl
 count_images p f (x ∷ xs) = ap (λ n. cond (p (f x)) 1 0 + n) (count_images p f xs)
 
 -- what passes where just the places from a on, c of them, do
-filter_between : {X : Type 0} (p : X → Bool) (d : X) (xs : List X) (a c : ℕ) → ((i : ℕ) → i < length xs → (p (get_or xs i d) ≡ true) ↔ ((a ≤ i) × (i < a + c))) → filter p xs ≡ take c (drop a xs)
+pub filter_between : {X : Type 0} (p : X → Bool) (d : X) (xs : List X) (a c : ℕ) → ((i : ℕ) → i < length xs → (p (get_or xs i d) ≡ true) ↔ ((a ≤ i) × (i < a + c))) → filter p xs ≡ take c (drop a xs)
 filter_between {X = X} p d [] a c h = empty a c
   where
     empty : (a c : ℕ) → ◌≡◌ {A = List X} [] (take c (drop a []))

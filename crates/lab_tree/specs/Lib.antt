@@ -8,6 +8,8 @@ pub mod TreeParts
 pub mod Trees
 pub mod Ends
 pub mod TreeForms
+pub mod Subforms
+pub mod TreeSubgames
 pub mod Decisions
 pub mod Ways
 pub mod Places

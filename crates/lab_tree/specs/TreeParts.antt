@@ -1,10 +1,11 @@
 -- The parts of a tree.
-use Rattle.std.specs.Prelude.{ℕ, ◌≡◌, ◌<◌, ◌^◌, List, length, Option}
+use Rattle.std.specs.Prelude.{ℕ, ◌≡◌, ◌<◌, ◌≤◌, ◌^◌, List, [], length, map, Option, slice_index_or}
 use Rattle.lab_defs_text.specs.Games.{GameModel}
 use Rattle.lab_unfold.specs.Values.{Unfolded, unfolded}
+use Rattle.lab_form.specs.declared.items.Span.{Span}
 use Rattle.lab_tree.specs.declared.info.NodeId.{NodeId}
 use Rattle.lab_tree.specs.declared.info.RowInfo.{RowInfo}
-use Rattle.lab_tree.specs.NodeValues.{NodesValue, nodes_in}
+use Rattle.lab_tree.specs.NodeValues.{NodesValue, nodes_in, end_among}
 use Rattle.lab_tree.specs.Paths.{PathsValue, ArePaths, paths_by}
 use Rattle.lab_tree.specs.SetValues.{SetsValue, sets_in}
 use Rattle.lab_tree.specs.TreeForms.{all_rows, AreFormParts}
@@ -51,17 +52,24 @@ tree_with v = record {
   node_rows = v.node_rows;
 }
 
+-- a span of so many sets
+abbrev pub IsSpan : ℕ → Span → Type 0
+IsSpan n s = (s.from ≤ s.to) × (s.to ≤ n)
+
 -- there is an entry for each history and for each node
 pub record AreSeatParts (histories nodes : ℕ) (s : SetsValue) : Type 0 where
   pub set_of : length s.set_of ≡ histories
   pub node_sets : length s.node_sets ≡ nodes
   pub spans : length s.spans ≡ nodes
   pub few : length s.sets < 2 ^ 32
+  pub inside : (n : ℕ) → n < length s.spans → IsSpan (length s.sets) (slice_index_or s.spans n (record { from = 0; to = 0 }))
 
 -- that of all parts, and they make a form and ways
 pub record AreParts (v : PartsValue) : Type 0 where
   pub node_of : length v.nodes.node_of ≡ length v.unfolded.items
   pub parents : length v.nodes.parents ≡ length v.nodes.nodes
+  pub ends : v.nodes.ends ≡ map (end_among v.nodes.nodes) v.nodes.nodes
+  pub after : (n : ℕ) → n < length v.nodes.nodes → n ≤ end_among v.nodes.nodes (slice_index_or v.nodes.nodes n [])
   pub one : AreSeatParts (length v.unfolded.items) (length v.nodes.nodes) v.one
   pub two : AreSeatParts (length v.unfolded.items) (length v.nodes.nodes) v.two
   pub paths1 : ArePaths v.paths1 v.one.starts v.nodes.parents

@@ -26,6 +26,8 @@ mod set_parts;
 mod set_starts;
 mod sets;
 mod starts;
+mod subgame;
+mod subgame_row;
 mod tree;
 mod walk;
 

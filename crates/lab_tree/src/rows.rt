@@ -75,6 +75,20 @@ impl Rows {
         )
     }
 
+    /// The terminal histories of the nodes from one up to and without another, node by node.
+    pub fn between(&self, from: u32, to: u32) -> &[RowInfo]
+        requires order { from ≤ to }
+        requires end { to ≤ length self.now }
+        ensures { result.now ≡ flat_map (λ rows. rows) (slice_range self.now from to) }
+    {
+        range(
+            self.items.as_slice(),
+            self.starts.as_slice(),
+            from as usize,
+            to as usize,
+        )
+    }
+
     /// All of them, node by node: the row with the number n is the n-th one.
     pub fn all(&self) -> &[RowInfo]
         ensures { result.now ≡ flat_map (λ rows. rows) self.now }
@@ -89,16 +103,26 @@ fn part<'a>(items: &'a [RowInfo], starts: &[u32], number: usize) -> &'a [RowInfo
     requires there { number < length (parts_of starts.now items.now) }
     ensures { result.now ≡ slice_index_or (parts_of starts.now items.now) number [] }
 {
-    between(items, starts, number)
+    between(items, starts, number, number + 1)
 }
 
-// The items from one place of a list to the next.
-fn between<'a>(items: &'a [RowInfo], starts: &[u32], number: usize) -> &'a [RowInfo]
-    requires there { number + 1 < length starts.now }
-    requires order { slice_index starts.now number ≤ slice_index starts.now (number + 1) }
-    requires end { slice_index starts.now (number + 1) ≤ length items.now }
-    ensures { result.now
-        ≡ slice_range items.now (slice_index starts.now number) (slice_index starts.now (number + 1)) }
+// The parts from one up to and without another, of such a list.
+fn range<'a>(items: &'a [RowInfo], starts: &[u32], from: usize, to: usize) -> &'a [RowInfo]
+    requires cuts { AreCuts starts.now (length items.now) }
+    requires order { from ≤ to }
+    requires end { to ≤ length (parts_of starts.now items.now) }
+    ensures { result.now ≡ flat_map (λ rows. rows) (slice_range (parts_of starts.now items.now) from to) }
 {
-    &items[starts[number] as usize..starts[number + 1] as usize]
+    between(items, starts, from, to)
+}
+
+// The items from one place of a list to another.
+fn between<'a>(items: &'a [RowInfo], starts: &[u32], from: usize, to: usize) -> &'a [RowInfo]
+    requires from { from < length starts.now }
+    requires to { to < length starts.now }
+    requires order { slice_index starts.now from ≤ slice_index starts.now to }
+    requires end { slice_index starts.now to ≤ length items.now }
+    ensures { result.now ≡ slice_range items.now (slice_index starts.now from) (slice_index starts.now to) }
+{
+    &items[starts[from] as usize..starts[to] as usize]
 }

@@ -15,6 +15,7 @@ use super::decisions::decision_counts;
 use super::nodes::Nodes;
 use super::numbered_sets::{NumberedSets, numbered_sets};
 use super::set_starts::{spans, starts};
+use super::subgame_row::SeatPart;
 use crate::{NodeId, SetInfo};
 use lab_form::{SetId, Span};
 use lab_unfold::{Histories, HistoryId};
@@ -136,6 +137,22 @@ impl SeatSets {
         ensures { result ≡ slice_index_or self.now.spans node.0 (record { from = 0; to = 0 }) }
     {
         self.spans[node.0 as usize]
+    }
+
+    /// What the subgame of a node takes of the seat, which has at most so many decisions on a row.
+    pub fn part(&self, node: NodeId, most: u32) -> SeatPart<'_>
+        requires { node.0 < length self.now.spans }
+        ensures sets { result.sets.now ≡ self.now.sets }
+        ensures decisions { result.decisions.now ≡ set_decisions self.now.sets }
+        ensures span { result.span ≡ slice_index_or self.now.spans node.0 (record { from = 0; to = 0 }) }
+        ensures most { result.most ≡ most }
+    {
+        SeatPart {
+            sets: self.sets(),
+            decisions: self.decisions(),
+            span: self.span(node),
+            most,
+        }
     }
 }
 

@@ -1,13 +1,15 @@
 //! The public tree of a game.
 
-ghost use Rattle.std.specs.Prelude.{◌≡◌, ◌⊎◌, ◌<◌, [], None, Some, length, slice_index_or, IfOk, SomeIff};
+ghost use Rattle.std.specs.Prelude.{◌≡◌, ◌⊎◌, ◌<◌, ◌≤◌, ◌^◌, unsigned_abs, All, [], None, Some, length, slice_index_or, IfOk, SomeIff};
 ghost use Rattle.std.specs.Option.{IsSome};
 ghost use Rattle.lab_defs_game.specs.Recall.{recall_fault};
 ghost use Rattle.lab_defs_game.specs.Unfolding.{unfold_fault};
 ghost use Rattle.lab_world.specs.Games.{game_model};
 ghost use Rattle.lab_world.specs.Seats.{seat_number};
 ghost use Rattle.lab_unfold.specs.Values.{unfolded};
-ghost use Rattle.lab_tree.specs.TreeForms.{tree_form};
+ghost use Rattle.lab_form.specs.Forms.{actions_in, form_model};
+ghost use Rattle.lab_tree.specs.TreeForms.{form_sets, tree_form};
+ghost use Rattle.lab_tree.specs.TreeSubgames.{rows_inside, tree_subgame, FitsRoom};
 ghost use Rattle.lab_tree.specs.TreeParts.{parts_in, AreSeatParts, IsSeatValue};
 ghost use Rattle.lab_tree.specs.Trees.{node_id, seat_of, tree_of};
 
@@ -16,8 +18,10 @@ use super::nodes::Nodes;
 use super::paths::SeatPaths;
 use super::rows::Rows;
 use super::sets::SeatSets;
+use super::subgame::{add_inner_rows, add_inner_sets};
 use crate::{NodeId, PathWalk, RowInfo, SetInfo};
 use lab_form::{Form, SetId, Span};
+use lab_table::Table;
 use lab_unfold::{Histories, HistoryId};
 use lab_world::{Game, Seat};
 use std::alloc::{AllocError, Global};
@@ -235,6 +239,42 @@ impl Tree {
             self.rows.all(),
             [scale.most1, scale.most2],
         )
+    }
+
+    /// Writes the form of the subgame of a node for a keeper, seat 1 or 2, in place of what a form holds; its room stays. In a row's worth
+    /// the keeper's weights by a table before the node are counted in. No memory is taken.
+    pub fn write_subgame(&self, keeper: u32, node: NodeId, table: &Table, form: &mut Form)
+        requires keeper { (keeper ≡ 1) ⊎ (keeper ≡ 2) }
+        requires there { node.0 < length self.now.nodes }
+        requires table { table.now.actions ≡ actions_in (form_sets (seat_of self.now keeper).sets) }
+        requires room { FitsRoom (tree_subgame self.now keeper node.0 table.now.weights form.old.set_room form.old.row_room) }
+        requires small { All (λ z. unsigned_abs z.worth ≤ 2 ^ 64)
+            (form_model (tree_subgame self.now keeper node.0 table.now.weights form.old.set_room form.old.row_room)).rows }
+        ensures { form.new ≡ tree_subgame self.now keeper node.0 table.now.weights form.old.set_room form.old.row_room }
+    {
+        let scale = self.histories.scale();
+        let one = self.one.part(node, scale.most1);
+        let two = self.two.part(node, scale.most2);
+        form.clear();
+        add_inner_sets(form, 1, one.sets, one.span);
+        add_inner_sets(form, 2, two.sets, two.span);
+        add_inner_rows(
+            form,
+            self.rows_inside(node),
+            keeper,
+            table.weights(),
+            &one,
+            &two,
+        );
+    }
+
+    // The rows of the nodes inside the subgame of a node.
+    fn rows_inside(&self, node: NodeId) -> &[RowInfo]
+        requires { node.0 < length self.now.nodes }
+        ensures { result.now ≡ rows_inside self.now node.0 }
+    {
+        self.rows
+            .between(node.0, self.nodes.ends()[node.0 as usize])
     }
 
     // The sets of a seat.
