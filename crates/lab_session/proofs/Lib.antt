@@ -1,0 +1,6 @@
+mod TableLemmas
+mod WrongSums
+mod Amounts
+mod Replies
+mod Guards
+mod FaultPlaces
