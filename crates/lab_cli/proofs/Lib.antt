@@ -3,10 +3,10 @@ mod AnsweredLemmas
 mod CommandLemmas
 mod ContinuedLemmas
 mod CountLemmas
+mod FewLemmas
 mod ReplyLemmas
 mod RunLemmas
 mod SessionLemmas
-mod SplitLemmas
-mod Splitting
+mod StartLemmas
 mod StopLemmas
 mod WriteLemmas

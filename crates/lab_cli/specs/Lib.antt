@@ -2,9 +2,7 @@ pub mod Answering
 pub mod CommandStops
 pub mod Counted
 pub mod ModeNames
-pub mod EvenSplits
 pub mod Finishes
 pub mod LineReplies
 pub mod Runs
-pub mod Splits
 pub mod Statuses

@@ -6,7 +6,8 @@ ghost use Rattle.lab_world.specs.Games.{game_model};
 ghost use Rattle.lab_cli.specs.Counted.{counts_model, counts_text, tree_counts};
 
 use itoa::Buffer;
-use lab_input::{Playable, number_word, scale_word};
+use lab_input::{Playable, scale_word};
+use lab_lines::number_word;
 use lab_text::push_line;
 use lab_tree::{NoMemory, NodeId, Tree};
 use std::alloc::{AllocError, Global};

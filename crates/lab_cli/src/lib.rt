@@ -1,9 +1,10 @@
 //! The modes and commands of the program.
 #![tactic(auto)]
 
+mod calls;
 mod check;
+mod command_faults;
 mod counts;
-mod expectation;
 mod mode;
 mod output;
 mod print;

@@ -3,7 +3,9 @@ ghost use Rattle.std.specs.Prelude.{◌≡◌, ◌≢◌, ◌≤◌, ◌+◌, []
 ghost use Rattle.std.specs.Io.KnownBytes.{Appends};
 ghost use Rattle.lab_io.specs.Causes.{Rose};
 ghost use Rattle.lab_defs_report.specs.Cuts.{game_limit, commands_limit};
+ghost use Rattle.lab_defs_report.specs.Headline.{Headline};
 ghost use Rattle.lab_defs_report.specs.Modes.{this_program, mode_in, mode_answer, is_refused_in, usage_line};
+ghost use Rattle.lab_laws.specs.Printed.{PrintedLaw};
 ghost use Rattle.lab_input.specs.Stops.{line_of};
 ghost use Rattle.lab_cli.specs.Answering.{Answered};
 ghost use Rattle.lab_cli.specs.Finishes.{Finishes, WritesLine};
@@ -47,6 +49,11 @@ pub fn run<S: Source, K: Sink>(
     // words that are no mode are answered with the usage line, and the source is not read
     ensures bad_words { result ≡ Status.BadWords → (mode_in this_program (map string_bytes words.now) ≡ None) × Appends (K.written sink.old) (K.written sink.new) usage_line }
     ensures no_mode { mode_in this_program (map string_bytes words.now) ≡ None → (source.new ≡ source.old) × IsRejection result }
+
+    // what a session writes is the report that the definitions give, and these are the laws of their sessions: the strategies are guarded, and the
+    // bounds and expectations are printed exactly
+    ensures headline { Headline }
+    ensures printed { PrintedLaw }
 {
     match mode_of(words) {
         Some(mode) => {

@@ -3,7 +3,7 @@ use Rattle.std.specs.Prelude.{List, [], ◌∷◌, ◌++◌, Bool, true, false, 
 use Rattle.std.specs.Str.{bytes_eq}
 use lib.Chars.{codes}
 use Rattle.lab_defs_text.specs.Words.{Bytes, lines}
-use Rattle.lab_defs_report.specs.Commands.{Command, expect_uniform}
+use Rattle.lab_defs_report.specs.Commands.{Command, expect_uniform, expect, blueprint_uniform, blueprint_given, bound, show}
 use Rattle.lab_defs_report.specs.Cuts.{Cut, cut_from}
 use Rattle.lab_defs_report.specs.Answers.{Answer, answer}
 use Rattle.lab_defs_report.specs.GameModes.{check_cut, print_cut, verify_cut}
@@ -55,6 +55,11 @@ is_built_mode _ = false
 -- the commands that are built
 abbrev pub is_built_command : Command → Bool
 is_built_command expect_uniform = true
+is_built_command expect = true
+is_built_command blueprint_uniform = true
+is_built_command (blueprint_given weights) = true
+is_built_command (bound seat) = true
+is_built_command (show seat) = true
 is_built_command _ = false
 
 -- this program, as far as it is built

@@ -52,7 +52,7 @@ pub fn counts_of_fork()
 
 /// Another command is not built, whatever stood before.
 pub fn another_command()
-    ensures { report_in this_program session (pennies (codes "2") ++ text (codes "expect uniform" ∷ codes "bound 1" ∷ [])) ≡ text (codes "expect 0/1" ∷ codes "refused 22 NotBuilt" ∷ []) }
+    ensures { report_in this_program session (pennies (codes "2") ++ text (codes "expect uniform" ∷ codes "cert 1" ∷ [])) ≡ text (codes "expect 0/1" ∷ codes "refused 22 NotBuilt" ∷ []) }
 {}
 
 /// A line that is no command has its fault.

@@ -16,9 +16,8 @@ use Rattle.lab_defs_report.specs.Cuts.{game_limit, cut_at, cut_refused, cut_from
 use Rattle.lab_defs_report.specs.Modes.{input_cut}
 use Rattle.lab_input.specs.declared.stop.Stop.{Stop}
 use Rattle.lab_input.specs.declared.stop.Stop.TheVariants as stop
-use Rattle.lab_input.specs.Stops.{IsRefusal}
+use Rattle.lab_input.specs.Stops.{IsRefusal, RefusesRead}
 use Rattle.lab_input.specs.GameParts.{IsGamePart, TakesSome, CutsOff}
-use Rattle.lab_input.specs.CutLines.{RefusesCut}
 use Rattle.lab_input.specs.PlainLines.{GivesLines}
 use Rattle.lab_input.proofs.PartLemmas.{given_and_more}
 use Rattle.lab_input.proofs.PlainLemmas.{plain_cut, plain_few}
@@ -129,7 +128,7 @@ cut_short old left new ahead rest text n allowance s c fits t e h =
 
 -- what stopped the reader inside a line cuts the input off
 pub cut_by_stop : (old left new : Option Bytes) (ahead text : Bytes) (n allowance : ℕ) (why : ReadStop) (s : Stop) → Collected old ahead left text n → allowance + length text ≡ game_limit
-    → StoppedAfter ahead left new allowance (LineStop allowance new why) → RefusesCut n why s → CutsOff old new s
+    → StoppedAfter ahead left new allowance (LineStop allowance new why) → RefusesRead n (codes "GameTooLong") why s → CutsOff old new s
 cut_by_stop old left new ahead text n allowance read.NoNewline s c fits t h =
     cuts_off old new (stopped_after old left new ahead text t.taken allowance c.takes fits t.consumed t.within) true (refused n (codes "NoNewline") []) s h (λ _. t.why.3)
     (c.cuts true (ahead ++ t.taken) ∙ ends_inside n text (ahead ++ t.taken) t.why.0 t.why.1 (omega (arith, fits, t.why.2)))

@@ -21,12 +21,10 @@ use Rattle.lab_defs_report.specs.GameModes.{read_text, accepted_at, playable}
 use Rattle.lab_input.specs.declared.stop.Stop.{Stop}
 use Rattle.lab_input.specs.declared.stop.Stop.TheVariants as stop
 use Rattle.lab_input.specs.Stops.{IsRefusal, Denies, Gives, RefusesUnfolding, RefusesRecall}
-use Rattle.lab_unfold.specs.Values.{Unfolded, unfolded}
 use Rattle.lab_unfold.specs.declared.history.HistoryId.{HistoryId}
-use Rattle.lab_unfold.proofs.CallerLemmas.{all_length}
 
 -- both histories that are named are there
-pub differ_there : (g : GameModel) (seat m n : ℕ) → recall_fault g ≡ Some (legal_differs seat m n) → (m < length (histories g)) × (n < length (histories g))
+differ_there : (g : GameModel) (seat m n : ℕ) → recall_fault g ≡ Some (legal_differs seat m n) → (m < length (histories g)) × (n < length (histories g))
 differ_there g seat m n e = at ((legal_differs_law g seat m n).0 e)
   where
     at : ((seat ≡ 1) × IsFirstPair (one_set g 1) (differ g 1) (histories g) m n) ⊎ ((seat ≡ 2) × AlikeNames g 1 × IsFirstPair (one_set g 2) (differ g 2) (histories g) m n)
@@ -34,7 +32,7 @@ differ_there g seat m n e = at ((legal_differs_law g seat m n).0 e)
     at (inl p) = (omega (arith, p.1.0, p.1.3), p.1.0)
     at (inr p) = (omega (arith, p.2.0, p.2.3), p.2.0)
 
-pub forgotten_there : (g : GameModel) (seat m n : ℕ) → recall_fault g ≡ Some (forgotten seat m n) → (m < length (histories g)) × (n < length (histories g))
+forgotten_there : (g : GameModel) (seat m n : ℕ) → recall_fault g ≡ Some (forgotten seat m n) → (m < length (histories g)) × (n < length (histories g))
 forgotten_there g seat m n e = at ((forgotten_law g seat m n).0 e).3
   where
     at : ((seat ≡ 1) × IsFirstPair (confused g 1) (confused g 1) (histories g) m n) ⊎ ((seat ≡ 2) × Remembers g 1 × IsFirstPair (confused g 2) (confused g 2) (histories g) m n)
@@ -42,18 +40,12 @@ forgotten_there g seat m n e = at ((forgotten_law g seat m n).0 e).3
     at (inl p) = (omega (arith, p.1.0, p.1.3), p.1.0)
     at (inr p) = (omega (arith, p.2.0, p.2.3), p.2.0)
 
--- as many items as histories
-items_there : (g : GameModel) (u : Unfolded) (n : ℕ) → u ≡ unfolded g → n < length (histories g) → n < length u.items
-items_there g u n e l = let same = all_length g u.items (ap (λ (v : Unfolded). v.items) e) in omega (arith, l, same)
+-- so are those of either fault as the program has it
+pub differ_histories : (g : GameModel) (f : RecallFault) (seat : ℕ) (m n : HistoryId) → IsFault g f → f ≡ fault.LegalDiffers seat m n → (m.0 < length (histories g)) × (n.0 < length (histories g))
+differ_histories g f seat m n h k = differ_there g seat m.0 n.0 (subst (IsFault g) k h)
 
--- so they are items, for either fault
-pub differ_items : (g : GameModel) (u : Unfolded) (f : RecallFault) (seat : ℕ) (m n : HistoryId) → u ≡ unfolded g → IsFault g f → f ≡ fault.LegalDiffers seat m n → (m.0 < length u.items) × (n.0 < length u.items)
-differ_items g u f seat m n e h k =
-    let there = differ_there g seat m.0 n.0 (subst (IsFault g) k h) in (items_there g u m.0 e there.0, items_there g u n.0 e there.1)
-
-pub forgotten_items : (g : GameModel) (u : Unfolded) (f : RecallFault) (seat : ℕ) (m n : HistoryId) → u ≡ unfolded g → IsFault g f → f ≡ fault.Forgotten seat m n → (m.0 < length u.items) × (n.0 < length u.items)
-forgotten_items g u f seat m n e h k =
-    let there = forgotten_there g seat m.0 n.0 (subst (IsFault g) k h) in (items_there g u m.0 e there.0, items_there g u n.0 e there.1)
+pub forgotten_histories : (g : GameModel) (f : RecallFault) (seat : ℕ) (m n : HistoryId) → IsFault g f → f ≡ fault.Forgotten seat m n → (m.0 < length (histories g)) × (n.0 < length (histories g))
+forgotten_histories g f seat m n h k = forgotten_there g seat m.0 n.0 (subst (IsFault g) k h)
 
 -- ---- refusals
 

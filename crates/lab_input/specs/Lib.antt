@@ -1,4 +1,3 @@
-pub mod CutLines
 pub mod GameParts
 pub mod PlainLines
 pub mod Stops

@@ -1,11 +1,14 @@
 -- What stops an input says, beside the refusals of the definitions.
-use Rattle.std.specs.Prelude.{◌≡◌, ℕ, Option, Some, None, Result, Ok, Err, ⊤}
+use Rattle.std.specs.Prelude.{◌≡◌, ℕ, [], Option, Some, None, Result, Ok, Err, ⊤}
+use lib.Chars.{codes}
+use Rattle.lab_io.specs.declared.line_reader.ReadStop.{ReadStop}
+use Rattle.lab_io.specs.declared.line_reader.ReadStop.TheVariants as read
 use Rattle.lab_defs_text.specs.Words.{Bytes}
 use Rattle.lab_defs_text.specs.Faults.{LineFault, TextFault}
 use Rattle.lab_defs_text.specs.Games.{GameModel}
 use Rattle.lab_defs_game.specs.Unfolding.{UnfoldFault}
 use Rattle.lab_defs_game.specs.Recall.{RecallFault}
-use Rattle.lab_defs_report.specs.Refusals.{Refusal, refusal_line, refused_text, refused_in_line, refused_unfolding, refused_recall}
+use Rattle.lab_defs_report.specs.Refusals.{Refusal, refusal_line, refused, refused_text, refused_in_line, refused_unfolding, refused_recall}
 use Rattle.lab_lines.specs.Codes.{code_name}
 use Rattle.lab_lines.specs.Lines.{refusal_text}
 use Rattle.lab_input.specs.declared.refusals.Rejection.{Rejection}
@@ -39,6 +42,14 @@ RefusesUnfolding g line (Some f) stop = IsRefusal (refused_unfolding g line f) s
 abbrev pub RefusesRecall : GameModel → ℕ → Option RecallFault → Stop → Type 0
 RefusesRecall g line None stop = stop ≡ Memory
 RefusesRecall g line (Some f) stop = IsRefusal (refused_recall g line f) stop
+
+-- the code of what stops a reader inside a line, `passed` being that of the bytes that are allowed
+abbrev pub RefusesRead : (line : ℕ) → (passed : Bytes) → ReadStop → Stop → Type 0
+RefusesRead line passed read.NoNewline stop = IsRefusal (refused line (codes "NoNewline") []) stop
+RefusesRead line passed read.LineTooLong stop = IsRefusal (refused line (codes "LineTooLong") []) stop
+RefusesRead line passed read.AllowancePassed stop = IsRefusal (refused line passed []) stop
+RefusesRead line passed read.ReadFault stop = stop ≡ ReadFault
+RefusesRead line passed read.Memory stop = stop ≡ Memory
 
 -- what is found is a refusal, and the stop is this one; or no memory is left
 abbrev pub Denies : {Y : Type 0} → Result Y Refusal → Stop → Type 0

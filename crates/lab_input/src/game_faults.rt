@@ -1,22 +1,22 @@
 //! The refusals of games that are not unfolded, or have no perfect recall.
-ghost use Rattle.std.specs.Prelude.{◌≡◌, ◌∷◌, [], ◌<◌, length};
+ghost use Rattle.std.specs.Prelude.{◌≡◌, ◌∷◌, []};
 ghost use Rattle.lab_defs_text.specs.Numbers.{numeral};
 ghost use Rattle.lab_defs_text.specs.Texts.{name_of};
-ghost use Rattle.lab_defs_report.specs.Refusals.{refused as refusal_of, scale_word as word_of_scale, world_name as name_at};
+ghost use Rattle.lab_defs_report.specs.Refusals.{refused as refusal_of, scale_word as word_of_scale};
 ghost use Rattle.lab_world.specs.Games.{game_model};
 ghost use Rattle.lab_unfold.specs.Faults as unfolds;
-ghost use Rattle.lab_unfold.specs.Values.{unfolded};
 ghost use Rattle.lab_recall.specs.Faults as recall;
+ghost use Rattle.lab_session.specs.Sessions.{AreWorlds};
 ghost use Rattle.lab_input.specs.Stops.{IsRefusal, RefusesUnfolding, RefusesRecall};
 ghost use Rattle.lab_lines.specs.Codes.{code_name};
 ghost use lib.Chars.{codes};
 
-use crate::refusals::{number_word, refused_number, refused_with, scale_word};
+use crate::refusals::{refused_number, refused_with, scale_word};
 use crate::stop::Stop;
 use itoa::Buffer;
-use lab_lines::Code;
+use lab_lines::{Code, number_word};
 use lab_recall::RecallFault;
-use lab_unfold::{Histories, HistoryId, UnfoldFault};
+use lab_unfold::UnfoldFault;
 use lab_world::{Game, WorldId};
 use std::alloc::Global;
 
@@ -82,35 +82,25 @@ fn name(game: &Game, place: WorldId) -> &[u8]
     }
 }
 
-/// The refusal of a game without perfect recall, at a line.
+/// The refusal of a game without perfect recall, at a line; the histories of the fault lead to these worlds.
 pub fn refused_recall(
     alloc: Global,
     game: &Game,
-    histories: &Histories,
     line: u32,
     fault: RecallFault,
+    first: WorldId,
+    second: WorldId,
 ) -> Stop
-    requires unfolded { histories.now ≡ unfolded (game_model game.now) }
-    requires fault { recall.IsFault (game_model game.now) fault }
+    requires { AreWorlds (game_model game.now) fault first.0 second.0 }
     ensures { RefusesRecall (game_model game.now) line (recall.fault_in fault) result }
 {
+    let one = name(game, first);
+    let two = name(game, second);
     match fault {
-        RecallFault::LegalDiffers {
-            seat,
-            first,
-            second,
-        } => {
-            let one = world_name(game, histories, first);
-            let two = world_name(game, histories, second);
+        RecallFault::LegalDiffers { seat, .. } => {
             refused_seat(alloc, line, Code::LegalDiffers, seat, one, two)
         }
-        RecallFault::Forgotten {
-            seat,
-            first,
-            second,
-        } => {
-            let one = world_name(game, histories, first);
-            let two = world_name(game, histories, second);
+        RecallFault::Forgotten { seat, .. } => {
             refused_seat(alloc, line, Code::Forgotten, seat, one, two)
         }
         RecallFault::Memory => Stop::Memory,
@@ -128,13 +118,4 @@ fn refused_seat(alloc: Global, line: u32, code: Code, seat: u32, one: &[u8], two
         code,
         &[number_word(seat, &mut digits), one, two],
     )
-}
-
-// The name of the world where a history leads.
-fn world_name<'a>(game: &'a Game, histories: &Histories, id: HistoryId) -> &'a [u8]
-    requires unfolded { histories.now ≡ unfolded (game_model game.now) }
-    requires there { id.0 < length histories.now.items }
-    ensures { result.now ≡ name_at (game_model game.now) id.0 }
-{
-    name(game, histories.item(id).world)
 }

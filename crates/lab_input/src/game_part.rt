@@ -21,12 +21,11 @@ ghost use Rattle.lab_io.specs.Causes.{Rose};
 ghost use Rattle.lab_io.specs.Reading.{LineStop};
 ghost use Rattle.lab_io.specs.declared.line_reader.TheConstants.{READ_AHEAD};
 ghost use Rattle.lab_defs_report.specs.Cuts.{game_limit};
-ghost use Rattle.lab_input.specs.CutLines.{RefusesCut};
 ghost use Rattle.lab_input.specs.PlainLines.{ArePlainLines, GivesLines};
 
-use crate::refusals::refused;
+use crate::refusals::{refused, refused_read};
 use crate::stop::Stop;
-use lab_io::{LineReader, ReadStop, Source, Took};
+use lab_io::{LineReader, Source, Took};
 use lab_lines::Code;
 use memchr::memchr;
 use std::alloc::{AllocError, Global};
@@ -70,7 +69,7 @@ impl GamePart {
             match reader.next(source) {
                 Ok(Took::Line) => {}
                 Ok(Took::End) => return Err(refused(alloc, number, Code::CutShort)),
-                Err(stop) => return Err(cut_off(alloc, number, stop)),
+                Err(stop) => return Err(refused_read(alloc, number, Code::GameTooLong, stop)),
             }
             push_ended(&mut text, reader.line())?;
             if reader.line() == b"done".as_slice() {
@@ -129,17 +128,4 @@ fn push_ended(text: &mut Vec<u8>, line: &[u8]) -> Result<(), AllocError>
     text.extend_from_slice(line)?;
     text.push(b'\n')?;
     Ok(())
-}
-
-// Why the line with a number was not read.
-fn cut_off(alloc: Global, number: u32, stop: ReadStop) -> Stop
-    ensures { RefusesCut number stop result }
-{
-    match stop {
-        ReadStop::NoNewline => refused(alloc, number, Code::NoNewline),
-        ReadStop::LineTooLong => refused(alloc, number, Code::LineTooLong),
-        ReadStop::AllowancePassed => refused(alloc, number, Code::GameTooLong),
-        ReadStop::ReadFault => Stop::ReadFault,
-        ReadStop::Memory => Stop::Memory,
-    }
 }

@@ -11,8 +11,9 @@ mod stop;
 mod text_faults;
 
 pub use ending::check_end;
+pub use game_faults::{refused_recall, refused_unfolding};
 pub use game_part::GamePart;
 pub use playable::{Playable, played_game};
-pub use refusals::{Rejection, number_word, refused, refused_line, scale_word};
+pub use refusals::{Rejection, refused, refused_line, refused_read, refused_with, scale_word};
 pub use stop::Stop;
 pub use text_faults::game_of;

@@ -6,12 +6,13 @@ ghost use Rattle.lab_lex.specs.Faults.{lex_model};
 ghost use Rattle.lab_lines.specs.Codes.{code_name};
 ghost use Rattle.lab_lines.specs.Lines.{spaced};
 ghost use Rattle.lab_text.specs.Faults.{line_fault};
-ghost use Rattle.lab_input.specs.Stops.{IsRefusal, RefusesLine};
+ghost use Rattle.lab_input.specs.Stops.{IsRefusal, RefusesLine, RefusesRead};
 
 use crate::stop::Stop;
 use itoa::Buffer;
+use lab_io::ReadStop;
 use lab_lex::LexFault;
-use lab_lines::{Code, Refusal};
+use lab_lines::{Code, Refusal, number_word};
 use lab_text::LineFault;
 use std::alloc::{AllocError, Global};
 
@@ -79,13 +80,6 @@ pub fn refused_number(alloc: Global, line: u32, code: Code, number: u32) -> Stop
     refused_with(alloc, line, code, &[number_word(number, &mut digits)])
 }
 
-/// A number as a word.
-pub fn number_word<'a>(number: u32, digits: &'a mut Buffer) -> &'a [u8]
-    ensures { result.now ≡ numeral number }
-{
-    digits.format(number).as_bytes()
-}
-
 /// A scale of chances as a word.
 pub fn scale_word<'a>(scale: u128, digits: &'a mut Buffer) -> &'a [u8]
     ensures { result.now ≡ numeral scale }
@@ -114,5 +108,18 @@ pub fn refused_line(alloc: Global, line: u32, fault: LineFault) -> Stop
         LineFault::BadWord { place } => refused_number(alloc, line, Code::BadWord, place),
         LineFault::Twice { place } => refused_number(alloc, line, Code::Twice, place),
         LineFault::Memory => Stop::Memory,
+    }
+}
+
+/// Why a line of the input was not read; `passed` is the code of the bytes that are allowed.
+pub fn refused_read(alloc: Global, line: u32, passed: Code, stop: ReadStop) -> Stop
+    ensures { RefusesRead line (code_name passed) stop result }
+{
+    match stop {
+        ReadStop::NoNewline => refused(alloc, line, Code::NoNewline),
+        ReadStop::LineTooLong => refused(alloc, line, Code::LineTooLong),
+        ReadStop::AllowancePassed => refused(alloc, line, passed),
+        ReadStop::ReadFault => Stop::ReadFault,
+        ReadStop::Memory => Stop::Memory,
     }
 }

@@ -9,7 +9,7 @@ use Rattle.lab_defs_report.specs.Refusals.{refused, refusal_line}
 use Rattle.lab_lines.specs.Lines.{refusal_text, spaced}
 
 -- words joined by spaces are the first one, and each of the others after a space
-joined_spaced : (w : Bytes) (ws : List Bytes) → joined (w ∷ ws) ≡ w ++ spaced ws
+pub joined_spaced : (w : Bytes) (ws : List Bytes) → joined (w ∷ ws) ≡ w ++ spaced ws
 joined_spaced w [] = sym (append-nil w)
 joined_spaced w (v ∷ ws) = ap (λ t. w ++ (32 ∷ t)) (joined_spaced v ws)
 

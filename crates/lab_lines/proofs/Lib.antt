@@ -1,3 +1,5 @@
+mod AddLemmas
 pub mod CallerLemmas
 mod PrefixLemmas
 mod RefusalLemmas
+mod ShownLemmas

@@ -50,6 +50,16 @@ pub enum Code {
     Forgotten,
     /// The command is not built yet.
     NotBuilt,
+    /// There is no blueprint yet.
+    NoBlueprint,
+    /// There is a blueprint already.
+    SecondBlueprint,
+    /// A seat is neither 1 nor 2.
+    BadSeat,
+    /// More or fewer weights are given than are needed.
+    WrongCount,
+    /// The weights at a set don't sum to the grid.
+    WrongSum,
 }
 
 impl Code {
@@ -81,6 +91,11 @@ impl Code {
             Code::LegalDiffers => "LegalDiffers",
             Code::Forgotten => "Forgotten",
             Code::NotBuilt => "NotBuilt",
+            Code::NoBlueprint => "NoBlueprint",
+            Code::SecondBlueprint => "SecondBlueprint",
+            Code::BadSeat => "BadSeat",
+            Code::WrongCount => "WrongCount",
+            Code::WrongSum => "WrongSum",
         }
     }
 }

@@ -3,10 +3,12 @@
 
 mod code;
 mod line_buffer;
+mod number;
 mod refusal;
 mod reply;
 
 pub use code::Code;
+pub use number::number_word;
 pub use refusal::{Refusal, write_refusal};
 pub use reply::{Reply, write_reply};
 
@@ -14,7 +16,6 @@ pub use reply::{Reply, write_reply};
 mod tests {
     use super::*;
     use lab_io::{Failed, MemSink};
-    use lab_units::Fraction;
     use std::test::Fail;
 
     #[test]
@@ -42,6 +43,11 @@ mod tests {
             (Code::LegalDiffers, "LegalDiffers"),
             (Code::Forgotten, "Forgotten"),
             (Code::NotBuilt, "NotBuilt"),
+            (Code::NoBlueprint, "NoBlueprint"),
+            (Code::SecondBlueprint, "SecondBlueprint"),
+            (Code::BadSeat, "BadSeat"),
+            (Code::WrongCount, "WrongCount"),
+            (Code::WrongSum, "WrongSum"),
         ] {
             assert_eq!(rt; code.name(), name);
         }
@@ -59,15 +65,6 @@ mod tests {
         write_refusal(&mut sink, &refusal)?;
         let wanted = b"refused 4294967295 MissingRow rock paper\n".as_slice();
         assert_eq!(rt; sink.bytes(), wanted);
-        Ok(())
-    }
-
-    #[test]
-    fn writes_a_reply(rt: HostRuntime) -> Result<(), Fail> {
-        let alloc = rt.alloc();
-        let mut sink = MemSink::new(alloc, 64, Vec::new(alloc))?;
-        write_reply(&mut sink, &Reply::Expect(Fraction { num: -7, den: 12 }))?;
-        assert_eq!(rt; sink.bytes(), b"expect -7/12\n".as_slice());
         Ok(())
     }
 
@@ -109,16 +106,6 @@ mod tests {
             assert_eq!(rt; sink.bytes().len(), length, "at {call}");
             assert!(rt; wanted.starts_with(sink.bytes()), "at {call}");
         }
-        Ok(())
-    }
-
-    #[test]
-    fn reports_that_a_reply_is_not_written(rt: HostRuntime) -> Result<(), Fail> {
-        let alloc = rt.alloc();
-        let mut sink = MemSink::new(alloc, 64, vec![in alloc; 0]?)?;
-        let reply = Reply::Expect(Fraction { num: 1, den: 2 });
-        assert_eq!(rt; write_reply(&mut sink, &reply), Err(Failed));
-        assert!(rt; sink.bytes().is_empty());
         Ok(())
     }
 }

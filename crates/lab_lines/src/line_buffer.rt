@@ -14,6 +14,7 @@ ghost use Rattle.std.specs.Prelude.{
 };
 ghost use Rattle.std.specs.Io.KnownBytes.{Appends};
 ghost use Rattle.lab_io.specs.Causes.{HasCause, AppendsFront};
+ghost use Rattle.lab_lines.specs.Lines.{Adds};
 
 use lab_io::{Failed, Sink, write_whole};
 use std::marker::Model;
@@ -58,6 +59,24 @@ impl LineBuffer {
         let end = self.len + piece.len();
         self.bytes[self.len..end].copy_from_slice(piece);
         self.len = end;
+    }
+
+    /// Adds a piece; where there is no room for it the bytes so far are written first.
+    pub fn add<K: Sink>(&mut self, sink: &mut K, piece: &[u8]) -> Result<(), Failed>
+        requires { length piece.now ≤ ROOM }
+        ensures added { OnOk result
+            (Adds self.old self.new (K.written sink.old) (K.written sink.new) piece.now) }
+        ensures front { OnErr result
+            (AppendsFront (K.written sink.old) (K.written sink.new) (self.old ++ piece.now)) }
+        ensures cause { HasCause (K.faults sink.old) (K.faults sink.new) result }
+        ensures no_fault { OnOk result (K.faults sink.new ≡ K.faults sink.old) }
+    {
+        if piece.len() > ROOM - self.len {
+            write_whole(sink, self.bytes())?;
+            self.len = 0;
+        }
+        self.push(piece);
+        Ok(())
     }
 
     /// Writes the line with the rest of it, which may be of any length, and a line feed: by one

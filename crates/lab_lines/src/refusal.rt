@@ -9,6 +9,7 @@ ghost use Rattle.lab_lines.specs.Lines.{refusal_text};
 
 use crate::code::Code;
 use crate::line_buffer::LineBuffer;
+use crate::number::number_word;
 use itoa::Buffer;
 use lab_io::{Failed, Sink};
 
@@ -40,7 +41,7 @@ fn head(line: u32, code: Code) -> LineBuffer
     let mut digits = Buffer::new();
     let mut head = LineBuffer::new();
     head.push(b"refused ");
-    head.push(digits.format(line).as_bytes());
+    head.push(number_word(line, &mut digits));
     head.push(b" ");
     head.push(code.name().as_bytes());
     head

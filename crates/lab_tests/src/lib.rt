@@ -11,3 +11,5 @@ mod prints;
 mod readers;
 #[cfg(test)]
 mod sessions;
+#[cfg(test)]
+mod strategies;

@@ -96,7 +96,7 @@ fn refuses_commands(rt: HostRuntime) -> Result<(), Fail> {
     let cases = [
         session(
             PENNIES_2,
-            "bound 1\n",
+            "cert 1\n",
             "refused 21 NotBuilt\n",
             Status::Refused,
         ),

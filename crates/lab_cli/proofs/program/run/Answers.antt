@@ -1,4 +1,6 @@
 use Rattle.std.proofs.Common.{refl, sym, ◌∙◌, map, string_bytes}
+use Rattle.lab_laws.proofs.SessionSteps.{headline_law}
+use Rattle.lab_laws.proofs.SessionPrinted.{printed_law}
 use Rattle.lab_cli.specs.ModeNames.{mode_model}
 use Rattle.lab_cli.proofs.RunLemmas.{tells_answered, tells_rejected, is_answer, is_rejection, line_written, read_fault_is, read_fault_status, write_fault_status, write_fault_cause, not_bad_words}
 use Rattle.lab_cli.proofs.program.run.Goals as goal
@@ -38,3 +40,15 @@ returns-in-None-clause-bad_words g c = λ e. (sym c.in-None.ensures, line_writte
 
 pub returns-in-None-clause-no_mode : goal.returns-in-None-clause-no_mode
 returns-in-None-clause-no_mode g c = λ _. (refl, is_rejection _ _ _ _ c.usage.ensures.line)
+
+pub returns-in-Some-clause-headline : goal.returns-in-Some-clause-headline
+returns-in-Some-clause-headline g c = headline_law
+
+pub returns-in-Some-clause-printed : goal.returns-in-Some-clause-printed
+returns-in-Some-clause-printed g c = printed_law
+
+pub returns-in-None-clause-headline : goal.returns-in-None-clause-headline
+returns-in-None-clause-headline g c = headline_law
+
+pub returns-in-None-clause-printed : goal.returns-in-None-clause-printed
+returns-in-None-clause-printed g c = printed_law

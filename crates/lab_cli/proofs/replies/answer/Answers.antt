@@ -1,26 +1,42 @@
--- The one command that is built is answered, and each other one refused.
-use Rattle.std.proofs.Common.{◌≡◌, sym}
-use Rattle.lab_defs_report.specs.Sessions.{not_built}
-use Rattle.lab_input.specs.declared.stop.Stop.TheVariants as stop
+-- Each command that is built is replied to by its call, and each other one refused.
+use Rattle.std.proofs.Common.{◌≡◌, false, refl, sym, ap, inl, inr}
+use Rattle.lab_defs_report.specs.Commands as definition
+use Rattle.lab_defs_report.specs.Modes.{is_built_command}
+use Rattle.lab_commands.specs.declared.command.Command.{Command}
 use Rattle.lab_commands.specs.Commands.{command_model}
-use Rattle.lab_cli.specs.CommandStops.{started}
-use Rattle.lab_cli.proofs.CommandLemmas.{uniform_written, uniform_begun, other_refused, refusal_no_fault}
+use Rattle.lab_cli.proofs.CommandLemmas.{other_refused}
 use Rattle.lab_cli.proofs.replies.answer.Goals as goal
 
-pub returns-then-not-is_built-clause-replies : goal.returns-then-not-is_built-clause-replies
-returns-then-not-is_built-clause-replies g c = λ m u.
-    other_refused c.args.line (started m) (command_model c.args.command.now) _ c.refused.result (sym c.if-not-is_built.ensures) c.refused.ensures
+pub returns-in-ExpectUniform-clause-replies : goal.returns-in-ExpectUniform-clause-replies
+returns-in-ExpectUniform-clause-replies g c = rw c.in-ExpectUniform.is (c.write.ensures.replies c.args.session.now definition.expect_uniform refl c.expect_uniform-reply.ensures)
 
-pub returns-then-not-is_built-clause-no_read_fault : goal.returns-then-not-is_built-clause-no_read_fault
-returns-then-not-is_built-clause-no_read_fault g c = λ e. let same : c.refused.result ≡ stop.ReadFault = cc in (refusal_no_fault (not_built c.args.line) c.refused.result c.refused.ensures).0 same
+pub returns-in-Expect-clause-replies : goal.returns-in-Expect-clause-replies
+returns-in-Expect-clause-replies g c = rw c.in-Expect.is (c.write-in-Expect.ensures.replies c.args.session.now definition.expect refl c.expect.ensures)
 
-pub returns-then-not-is_built-clause-fault : goal.returns-then-not-is_built-clause-fault
-returns-then-not-is_built-clause-fault g c = λ e. let same : c.refused.result ≡ stop.WriteFault = cc in absurd ((refusal_no_fault (not_built c.args.line) c.refused.result c.refused.ensures).1 same)
+pub returns-in-BlueprintUniform-clause-replies : goal.returns-in-BlueprintUniform-clause-replies
+returns-in-BlueprintUniform-clause-replies g c = rw c.in-BlueprintUniform.is (c.write-in-BlueprintUniform.ensures.replies c.args.session.now definition.blueprint_uniform refl c.blueprint-reply.ensures)
 
-pub returns-in-Ok-clause-replies : goal.returns-in-Ok-clause-replies
-returns-in-Ok-clause-replies g c = λ m u.
-    uniform_written c.args.line m (command_model c.args.command.now) c.args.uniform _ _ tt u (sym c.if-not-is_built.ensures) c.in-Ok.ensures.whole
+pub returns-in-BlueprintGiven-clause-replies : goal.returns-in-BlueprintGiven-clause-replies
+returns-in-BlueprintGiven-clause-replies g c =
+    rw (c.in-BlueprintGiven.is, sym c.as_slice-weights.ensures) (c.write-in-BlueprintGiven.ensures.replies c.args.session.now (definition.blueprint_given c.as_slice-weights.result.now) refl c.blueprint-reply-in-BlueprintGiven.ensures)
 
-pub returns-in-Err-clause-replies : goal.returns-in-Err-clause-replies
-returns-in-Err-clause-replies g c = λ m u.
-    uniform_begun c.args.line m (command_model c.args.command.now) c.args.uniform _ _ u (sym c.if-not-is_built.ensures) c.in-Err.ensures.front
+pub returns-in-Bound-clause-replies : goal.returns-in-Bound-clause-replies
+returns-in-Bound-clause-replies g c = rw c.in-Bound.is (c.write-in-Bound.ensures.replies c.args.session.now (definition.bound c.in-Bound.seat) refl c.bound.ensures)
+
+pub returns-in-Show-clause-replies : goal.returns-in-Show-clause-replies
+returns-in-Show-clause-replies g c = rw c.in-Show.is (c.write-in-Show.ensures.replies c.args.session.now (definition.show c.in-Show.seat) refl c.show.ensures)
+
+pub returns-in-BlueprintSolve-clause-replies : goal.returns-in-BlueprintSolve-clause-replies
+returns-in-BlueprintSolve-clause-replies g c =
+    let built = λ (x : Command). is_built_command (command_model x) in
+    let none : is_built_command (command_model c.args.command.now) ≡ false = elim c.in-BlueprintSolve.is [
+      | inl solve ↦ ap built solve.1
+      | inr rest ↦ elim rest [
+        | inl propose ↦ ap built propose.4
+        | inr rest ↦ elim rest [
+          | inl resolve ↦ ap built resolve.4
+          | inr rest ↦ elim rest [ inl cert ↦ ap built cert.1 | inr rest ↦ elim rest [ inl deal ↦ ap built deal.1 | inr play ↦ ap built play.2 ] ]
+        ]
+      ]
+    ] in
+    other_refused c.args.line c.args.session.now (command_model c.args.command.now) _ c.refused.result none c.refused.ensures

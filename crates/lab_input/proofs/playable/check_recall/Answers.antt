@@ -4,4 +4,4 @@ use Rattle.lab_input.proofs.playable.check_recall.Goals as goal
 
 pub returns-in-Err-clause-refused : goal.returns-in-Err-clause-refused
 returns-in-Err-clause-refused c =
-    recall_denied (game_model c.args.game.now) c.args.done c.in-Err.fault c.refused_recall.result c.requires.unfolds c.in-Err.ensures.fault c.refused_recall.ensures
+    recall_denied (game_model c.args.game.now) c.args.done c.in-Err.fault c.refused_sets.result c.requires.unfolds c.in-Err.ensures.fault c.refused_sets.ensures

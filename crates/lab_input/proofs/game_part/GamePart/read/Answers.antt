@@ -24,7 +24,7 @@ pub returns-in-Err-clause-stop : goal.returns-in-Err-clause-stop
 returns-in-Err-clause-stop g c =
     let had = collected_lines _ _ _ _ _ _ _ _ c.loop-text.invariant.collected c.loop-text.invariant.left c.in_ok-number.ensures in
     let left = lines_left _ _ _ _ _ c.loop-text.invariant.left c.in_ok-number.ensures in
-    cut_by_stop _ _ _ _ _ _ _ _ _ had left c.in-Err.ensures.stop c.cut_off.ensures
+    cut_by_stop _ _ _ _ _ _ _ _ _ had left c.in-Err.ensures.stop c.refused_read.ensures
 
 pub returns-then-eq-clause-part : goal.returns-then-eq-clause-part
 returns-then-eq-clause-part g c =
