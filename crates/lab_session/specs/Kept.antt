@@ -3,9 +3,11 @@ use Rattle.std.specs.Prelude.{ℕ, ◌≡◌, Option, IfSome, Result, Ok}
 use Rattle.lab_defs_text.specs.Games.{GameModel}
 use Rattle.lab_defs_game.specs.Accepted.{IsAccepted}
 use Rattle.lab_defs_value.specs.Bounds.{tight_bounds}
-use Rattle.lab_defs_value.specs.Expectation.{uniform_of}
+use Rattle.lab_defs_value.specs.Expectation.{uniform_of, expectation_of_uniform, expectation_units}
 use Rattle.lab_defs_report.specs.States.{Profile, SessionFault, table_of, bounds_of, profile_of, given_tables}
 use Rattle.lab_table.specs.Tables.{TableValue}
+use Rattle.lab_units.specs.declared.fraction.Fraction.{Fraction}
+use Rattle.lab_session.specs.Answers.{IsReduced}
 use Rattle.lab_session.specs.Boards.{IsTableFor}
 use Rattle.lab_session.specs.declared.side.Side.{Side}
 use Rattle.lab_session.specs.declared.side.Sides.{Sides}
@@ -33,9 +35,10 @@ pub record IsSideOf (g : GameModel) (p : Profile) (seat : ℕ) (s : Side) : Type
   pub weights : s.table.weights ≡ table_of p seat
   pub bounds : s.bounds.bounds ≡ bounds_of p seat
 
--- what a session keeps: a game that can be played and, from the blueprint on, a table and tight bounds of each seat
-pub record IsSession (g : GameModel) (kept : Option Sides) : Type 0 where
+-- what a session keeps: a game that can be played, what seat 1 expects where both seats split evenly and, from the blueprint on, a table and tight bounds of each seat
+pub record IsSession (g : GameModel) (even : Fraction) (kept : Option Sides) : Type 0 where
   pub accepted : IsAccepted g
+  pub expected : IsReduced even (expectation_of_uniform g) (expectation_units g)
   pub sides : IfSome kept (AreSides g)
 
 -- the strategies that a way to a blueprint leads to, or why it leads to none

@@ -32,6 +32,8 @@ use std::marker::Model;
 pub struct Session {
     alloc: Global,
     board: Board,
+    /// What seat 1 expects where both seats split evenly.
+    even: Fraction,
     sides: Option<Sides>,
 }
 
@@ -44,7 +46,7 @@ impl Model for Session {
 
     ghost view = { λ s. record { game = s.board; profile = option_map profile_in s.sides } };
 
-    ghost invariant = { λ s. IsSession s.board s.sides };
+    ghost invariant = { λ s. IsSession s.board s.even s.sides };
 }
 
 impl Session {
@@ -57,9 +59,11 @@ impl Session {
         ensures fault { IfErr result (λ f. IsStartFault game f) }
     {
         let board = Board::start(alloc, game)?;
+        let even = board.expected_evenly();
         Ok(Session {
             alloc,
             board,
+            even,
             sides: None,
         })
     }
@@ -70,7 +74,7 @@ impl Session {
         ensures value { IfOk result (λ f. IsLowest f (expectation_of_uniform self.old.game) (expectation_units self.old.game)) }
         ensures memory { result ≢ Err SessionFault.Memory }
     {
-        Ok(self.board.expected_evenly())
+        Ok(self.even)
     }
 
     /// Gives both seats their first strategies, and returns the bounds on what each can lose.
