@@ -1,6 +1,7 @@
 pub mod CallerLemmas
 mod NumberLemmas
 mod WeightLemmas
+mod PathLemmas
 mod SmallFormLemmas
 mod FoundLemmas
 mod BackedSizes

@@ -9,11 +9,12 @@ ghost use Rattle.lab_defs_value.specs.Parents.{IsForm};
 ghost use Rattle.lab_defs_value.specs.Bounds.{at, through, through_rows};
 ghost use Rattle.lab_defs_value.specs.Laws.{worth_sizes};
 ghost use Rattle.lab_form.specs.Forms.{sets_of, last_of, form_model, AreSets, AreRows};
-ghost use Rattle.lab_best.specs.Rows.{row_worth, IsPlayed, IsSmallRow};
+ghost use Rattle.lab_best.specs.Rows.{row_worth, ArePaths, IsPlayed, IsSmallRow};
 ghost use Rattle.lab_table.specs.Tables.{seat_actions, AreWeights};
 ghost use Rattle.lab_best.specs.Parts.{is_among, part_at, children_value};
 ghost use Rattle.lab_best.specs.Values.{strategy_in, numbers, IsSmallFor};
 
+use super::weight::{Paths, paths_of};
 use super::worth::{last_of, plus, row_worth, set_to_zero};
 use lab_form::{Form, FormRow, FormSet, SetId, other};
 use lab_units::Worth;
@@ -67,11 +68,11 @@ pub fn back_up(
 {
     let seat = other(keeper);
     let replies = form.sets(seat);
-    let sets = form.sets(keeper);
+    let paths = paths_of(form, keeper);
     let rows = form.rows();
     set_to_zero(out);
     add_children(form, seat, replies, values, set, first, out);
-    add_rows(form, keeper, sets, rows, d, weights, set, first, out);
+    add_rows(form, keeper, &paths, rows, d, weights, set, first, out);
 }
 
 /// Adds the values of the sets that follow each action directly.
@@ -107,7 +108,7 @@ fn add_children(
 fn add_rows(
     form: &Form,
     keeper: u32,
-    sets: &[FormSet],
+    paths: &Paths<'_>,
     rows: &[FormRow],
     d: u32,
     weights: &[u32],
@@ -117,8 +118,9 @@ fn add_rows(
 )
     requires keeper { (keeper ≡ 1) ⊎ (keeper ≡ 2) }
     requires small { IsSmallFor keeper d form.now }
-    requires sets { sets.now ≡ sets_of form.now keeper }
-    requires played { IsPlayed d sets.now weights.now }
+    requires sets { paths.now.sets.now ≡ sets_of form.now keeper }
+    requires paths { ArePaths paths.now.sets.now paths.now.above.now paths.now.over.now }
+    requires played { IsPlayed d paths.now.sets.now weights.now }
     requires rows { rows.now ≡ form.now.rows }
     requires row_steps { AreRows form.now.sets1 form.now.sets2 rows.now }
     requires order { AreSets (sets_of form.now (other keeper)) }
@@ -128,13 +130,21 @@ fn add_rows(
     ensures values { (i : ℕ) → i < length out.old → at (numbers out.new) i ≡ at (numbers out.old) i +ℤ through_rows (strategy_in form.now keeper d weights.now) set.0 (first + i) }
 {
     for number in form.rows_at(other(keeper), Some(set)) {
-        add_row(sets, keeper, d, weights, &rows[number as usize], first, out);
+        add_row(
+            paths,
+            keeper,
+            d,
+            weights,
+            &rows[number as usize],
+            first,
+            out,
+        );
     }
 }
 
 /// Adds what a row is worth to the keeper's opponent at the place of its last action, where that is among the actions from `first` on.
 fn add_row(
-    sets: &[FormSet],
+    paths: &Paths<'_>,
     keeper: u32,
     d: u32,
     weights: &[u32],
@@ -142,16 +152,17 @@ fn add_row(
     first: u32,
     out: &mut [Worth],
 )
-    requires played { IsPlayed d sets.now weights.now }
-    requires small { IsSmallRow keeper d sets.now row.now }
+    requires paths { ArePaths paths.now.sets.now paths.now.above.now paths.now.over.now }
+    requires played { IsPlayed d paths.now.sets.now weights.now }
+    requires small { IsSmallRow keeper d paths.now.sets.now row.now }
     requires sizes { (i : ℕ) → i < length out.old → unsigned_abs (at (numbers out.old) i) + 2 ^ 77 < 2 ^ 127 }
     ensures places { length out.new ≡ length out.old }
-    ensures values { (i : ℕ) → i < length out.old → at (numbers out.new) i ≡ at (numbers out.old) i +ℤ part_at first (last_of row.now (other keeper)) (row_worth keeper d sets.now weights.now row.now) i }
+    ensures values { (i : ℕ) → i < length out.old → at (numbers out.new) i ≡ at (numbers out.old) i +ℤ part_at first (last_of row.now (other keeper)) (row_worth keeper d paths.now.sets.now weights.now row.now) i }
     ensures sizes { (i : ℕ) → i < length out.old → unsigned_abs (at (numbers out.new) i) ≤ unsigned_abs (at (numbers out.old) i) + 2 ^ 77 }
 {
     let step = last_of(row, other(keeper));
     if is_among(step, first, out.len()) {
-        add_at(out, first, step, row_worth(sets, keeper, d, weights, row));
+        add_at(out, first, step, row_worth(paths, keeper, d, weights, row));
     }
 }
 

@@ -20,8 +20,8 @@ row_term-requires-clause-small c =
     let i = c.loop-row.row-index in
     let steps : AreRows f.sets1 f.sets2 f.rows = subst (AreRows f.sets1 f.sets2) c.rows-row-items.ensures.rows c.rows-row-items.ensures.there in
     let there : i < length f.rows = subst (λ (rs : List FormRow). i < length rs) c.rows-row-items.ensures.rows (omega arith) in
-    subst (λ (ss : List FormSet). IsSmallTerm g h ss c.sets-sets_two.result.now (get_or c.rows-row-items.result.now i no_row)) (sym c.sets-sets_one.ensures.sets)
-    (subst (λ (ss : List FormSet). IsSmallTerm g h f.sets1 ss (get_or c.rows-row-items.result.now i no_row)) (sym c.sets-sets_two.ensures.sets)
+    subst (λ (ss : List FormSet). IsSmallTerm g h ss c.paths_of-paths_two.result.sets.now (get_or c.rows-row-items.result.now i no_row)) (sym c.paths_of-paths_one.ensures.sets)
+    (subst (λ (ss : List FormSet). IsSmallTerm g h f.sets1 ss (get_or c.rows-row-items.result.now i no_row)) (sym c.paths_of-paths_two.ensures.sets)
     (subst (λ (rs : List FormRow). IsSmallTerm g h f.sets1 f.sets2 (get_or rs i no_row)) (sym c.rows-row-items.ensures.rows)
     (small_terms f g h c.requires.small steps i no_row there)))
 
@@ -35,8 +35,8 @@ loop-row-preserved c =
     let there : i < length f.rows = subst (λ (rs : List FormRow). i < length rs) c.rows-row-items.ensures.rows (omega arith) in
     let own : c.row_term.result.0 ≡ term (get_or f.rows i no_row) =
     c.row_term.ensures.value
-    ∙ ap (λ (ss : List FormSet). row_term g h ss c.sets-sets_two.result.now c.args.one.now c.args.two.now (get_or c.rows-row-items.result.now i no_row)) c.sets-sets_one.ensures.sets
-    ∙ ap (λ (ss : List FormSet). row_term g h f.sets1 ss c.args.one.now c.args.two.now (get_or c.rows-row-items.result.now i no_row)) c.sets-sets_two.ensures.sets
+    ∙ ap (λ (ss : List FormSet). row_term g h ss c.paths_of-paths_two.result.sets.now c.args.one.now c.args.two.now (get_or c.rows-row-items.result.now i no_row)) c.paths_of-paths_one.ensures.sets
+    ∙ ap (λ (ss : List FormSet). row_term g h f.sets1 ss c.args.one.now c.args.two.now (get_or c.rows-row-items.result.now i no_row)) c.paths_of-paths_two.ensures.sets
     ∙ ap (λ (rs : List FormRow). term (get_or rs i no_row)) c.rows-row-items.ensures.rows in
     record {
       value = c.plus-sum.ensures ∙ (omega (arith, ints, c.loop-row.invariant.value, own, total_next term f.rows i no_row there));

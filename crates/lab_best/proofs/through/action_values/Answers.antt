@@ -1,4 +1,4 @@
-use Rattle.std.proofs.Common.{◌≡◌, length, map, sym, ap, ◌∙◌}
+use Rattle.std.proofs.Common.{length, sym, ◌∙◌}
 use Rattle.lab_best.proofs.BackedSizes.{all_within}
 use Rattle.lab_best.specs.Values.{strategy_in}
 use Rattle.lab_best.proofs.FormLemmas.{replies_length}

@@ -17,7 +17,7 @@ invariant-loop-number l = record {
   places : length l.out ≡ length l.fn.out;
   there : (n : ℕ) → In n l.number-iterator → n < length l.rows;
   values : (i : ℕ) → i < length l.out
-      → at (numbers l.out) i +ℤ total (λ n. part_at l.first (last_of (get_or l.rows n no_row) (other l.keeper)) (row_worth l.keeper l.d l.sets l.weights (get_or l.rows n no_row)) i) l.number-iterator
+      → at (numbers l.out) i +ℤ total (λ n. part_at l.first (last_of (get_or l.rows n no_row) (other l.keeper)) (row_worth l.keeper l.d l.paths.sets.now l.weights (get_or l.rows n no_row)) i) l.number-iterator
       ≡ at (numbers l.fn.out) i +ℤ through_rows (strategy_in l.form l.keeper l.d l.weights) l.fn.set.0 (l.first + i);
   sizes : (i : ℕ) → i < length l.out → unsigned_abs (at (numbers l.out) i) + length l.number-iterator * 2 ^ 77 ≤ 2 ^ 126 + 2 ^ 94;
 }
