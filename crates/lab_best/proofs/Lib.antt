@@ -2,6 +2,7 @@ pub mod CallerLemmas
 mod NumberLemmas
 mod WeightLemmas
 mod PathLemmas
+mod KeptLemmas
 mod SmallFormLemmas
 mod FoundLemmas
 mod BackedSizes

@@ -34,6 +34,7 @@ loop-number-init c =
       values = λ i l.
           ap (λ z. at (numbers c.args.out.now) i +ℤ z)
           (rows_walk f c.args.keeper c.args.d c.args.weights.now c.requires.order steps c.args.set c.args.first i c.args.rows.now c.args.paths.now.sets.now seat c.into_iter-number-iterator.result c.requires.rows c.requires.sets refl walk);
+      kept = c.requires.kept;
       sizes = λ i l. omega (arith, few, c.requires.sizes i l);
     }
 
@@ -72,6 +73,7 @@ loop-number-preserved c =
           walk_total (λ k. part k i) (at (numbers c.loop-number.out) i) (at (numbers c.add_row.new.out) i) (part n i)
           (at (numbers c.args.out.now) i +ℤ through_rows (strategy_in c.args.form.now c.args.keeper c.args.d c.args.weights.now) c.args.set.0 (c.args.first + i))
           n c.loop-number.number-iterator c.next.new.self c.in-Some.ensures.steps (c.loop-number.invariant.values i (was i l)) (c.add_row.ensures.values i (was i l)) refl;
+      kept = c.add_row.ensures.kept;
       sizes = λ i l. omega (arith, c.loop-number.invariant.sizes i (was i l), split, c.add_row.ensures.sizes i (was i l));
     }
 
