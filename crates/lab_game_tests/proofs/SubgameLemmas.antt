@@ -1,7 +1,6 @@
 -- What the forms of an accepted game and of its subgames take: few weights, no more room for a subgame than for the game, and worths of at most 2^64.
-use Rattle.std.proofs.Common.{◌≡◌, ℕ, ◌+◌, ◌-◌, ◌*◌, ◌^◌, ◌<◌, ◌≤◌, List, [], length, map, flat_map, take, take_all, drop, get_or, sym, ap, ◌∙◌, subst, arith}
+use Rattle.std.proofs.Common.{◌≡◌, ℕ, ◌-◌, ◌*◌, ◌^◌, ◌<◌, ◌≤◌, List, [], length, map, flat_map, take_all, drop, get_or, sym, ap, ◌∙◌, subst, arith}
 use Rattle.std.specs.Prelude.{max, unsigned_abs, All, slice_range, slice_index_or}
-use Rattle.std.specs.List.{sum_by}
 use Rattle.std.proofs.lemmas.List.{length-map, length-take, length-drop}
 use Rattle.std.proofs.lemmas.List.Concat.{length-flat_map}
 use Rattle.std.proofs.lemmas.List.Sums.{sum_by-take-le, sum_by-take-drop}
@@ -15,7 +14,7 @@ use Rattle.lab_defs_game.specs.Seats.{IsSeat, grid_of}
 use Rattle.lab_defs_game.proofs.GridSizes.{some_grid}
 use Rattle.lab_defs_value.specs.Tables.{weights_of, weight_count as weights_in}
 use Rattle.lab_defs_value.specs.Replies.{IsTable}
-use Rattle.lab_defs_value.specs.Smallness.{row_size, HasRows}
+use Rattle.lab_defs_value.specs.Smallness.{HasRows}
 use Rattle.lab_defs_value.specs.Subgames.{subgame_form}
 use Rattle.lab_defs_value.proofs.GameStrategies.{actions_there}
 use Rattle.lab_sizes.specs.Sizes.{RowLaw}

@@ -1,6 +1,5 @@
-use Rattle.std.proofs.Common.{◌≡◌, ◌<◌, ◌≤◌, ◌^◌, ℕ, length, ap, ◌∙◌, sym, subst, arith}
+use Rattle.std.proofs.Common.{◌≡◌, ◌<◌, ◌≤◌, ◌^◌, length, ap, ◌∙◌, sym, subst, arith}
 use Rattle.std.specs.Prelude.{unsigned_abs, All}
-use Rattle.lab_defs_game.specs.Accepted.{IsAccepted}
 use Rattle.lab_defs_game.specs.Seats.{grid_of}
 use Rattle.lab_defs_text.specs.Games.{GameModel}
 use Rattle.lab_form.specs.Forms.{FormValue, sets_of, weight_count, form_model}
@@ -8,7 +7,6 @@ use Rattle.lab_table.specs.Tables.{seat_actions, AreWeights}
 use Rattle.lab_tree.specs.TreeForms.{tree_form}
 use Rattle.lab_tree.specs.TreeSubgames.{tree_subgame, FitsRoom}
 use Rattle.lab_tree.specs.Trees.{TreeValue, tree_of}
-use Rattle.lab_world.specs.Games.{game_model}
 use Rattle.lab_game_tests.proofs.SubgameLemmas.{weights_few, table_there, subgame_fits, worths_fit}
 use Rattle.lab_game_tests.proofs.subgames.written.Goals as goal
 
