@@ -122,7 +122,7 @@ fn writes_a_subgame_for_seat_two(rt: HostRuntime) -> Result<(), Fail> {
 
 #[test]
 fn writes_sets_with_parents_inside(rt: HostRuntime) -> Result<(), Fail> {
-    // Seat 1 has checked: 3 sets and then 3 more of each seat, and 6 plays that end by a check, a fold or a call.
+    // Seat 1 has checked: 3 sets and then 3 more of each seat, and 6 plays each that end by a check, a fold and a call.
     let form = subgame(rt.alloc(), 1, &FIRST, 2)?;
     assert_eq!(rt; sizes(&form), [6, 6, 18, 7, 7, 12]);
     let set = FormSet {
