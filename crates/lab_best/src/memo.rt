@@ -29,6 +29,7 @@ pub fn nothing_kept() -> Kept
 
 /// The weights of a seat on the path to a step, and its grid of `d` for each of `pad` decisions more: the weight that is kept at the
 /// step's place where it is this one, and else it is found, and kept there.
+#[inline(always)]
 pub fn kept_weight(
     paths: &Paths<'_>,
     d: u32,

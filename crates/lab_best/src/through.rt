@@ -48,6 +48,7 @@ pub fn action_values(
 }
 
 /// The same, with what is known of the form by which these values are the best ones where the others are.
+#[inline(always)]
 pub fn back_up(
     form: &Form,
     keeper: u32,

@@ -39,6 +39,8 @@ pub fn paths_of(form: &Form, seat: u32) -> Paths<'_>
 }
 
 /// The weights of a seat on the path to a step, and its grid of `d` for each of `pad` decisions more.
+#[cold]
+#[inline(never)]
 pub fn path_weight(
     paths: &Paths<'_>,
     d: u32,

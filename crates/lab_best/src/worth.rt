@@ -22,6 +22,7 @@ use lab_form::{FormRow, SetId};
 use lab_units::Worth;
 
 /// The weights of a seat, 1 or 2, on a row, its grid of `d` standing for each decision that the row lacks.
+#[inline(always)]
 pub fn row_weight(
     paths: &Paths<'_>,
     seat: u32,
