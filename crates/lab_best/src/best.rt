@@ -26,11 +26,12 @@ pub fn best_table(form: &Form, keeper: u32, d: u32, weights: &[u32], out: &mut [
 {
     set_to_zero(out);
     let mut kept = [nothing_kept(); 256];
+    let mut sums = [Worth(0); 32];
     let mut number = form.sets(other(keeper)).len();
     while number > 0 {
         number -= 1;
         let set = SetId(number as u32);
-        let (value, _) = best_at(form, keeper, d, weights, out, set, &mut kept);
+        let (value, _) = best_at(form, keeper, d, weights, out, set, &mut kept, &mut sums);
         out[number] = value;
     }
 }
@@ -59,11 +60,12 @@ pub fn best_reply(
 {
     set_to_zero(values);
     let mut kept = [nothing_kept(); 256];
+    let mut sums = [Worth(0); 32];
     let mut number = form.sets(other(keeper)).len();
     while number > 0 {
         number -= 1;
         let set = SetId(number as u32);
-        let (value, action) = best_at(form, keeper, d, weights, values, set, &mut kept);
+        let (value, action) = best_at(form, keeper, d, weights, values, set, &mut kept, &mut sums);
         values[number] = value;
         actions[number] = action;
     }

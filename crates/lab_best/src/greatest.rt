@@ -18,7 +18,7 @@ use lab_form::{Form, SetId, other};
 use lab_units::Worth;
 
 /// The best-response value at a set of the keeper's opponent, by those at the sets after it, and the first of its actions that backs
-/// it up. The actions are taken 32 at a time.
+/// it up. The actions are taken 32 at a time, with `sums` to write on.
 pub fn best_at(
     form: &Form,
     keeper: u32,
@@ -27,6 +27,7 @@ pub fn best_at(
     values: &[Worth],
     set: SetId,
     kept: &mut [Kept],
+    sums: &mut [Worth; 32],
 ) -> (Worth, u32)
     requires keeper { (keeper ≡ 1) ⊎ (keeper ≡ 2) }
     requires small { IsSmallFor keeper d form.now }
@@ -44,7 +45,6 @@ pub fn best_at(
 {
     let actions = form.sets(other(keeper))[set.0 as usize].actions;
     let mut best = (Worth(0), 0);
-    let mut sums = [Worth(0); 32];
     let mut first = 0u32;
     while first < actions {
         let count = (actions - first).min(32);
