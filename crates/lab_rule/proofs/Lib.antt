@@ -1,2 +1,4 @@
 pub mod CallerLemmas
 mod ViewProps
+mod StepLemmas
+mod FactorLemmas

@@ -1,6 +1,8 @@
 //! The rules by which a part of a strategy may be replaced, what they are told of it, and what they make of it.
 #![tactic(auto)]
 
+mod factors;
+mod gadget_parts;
 mod name;
 mod path;
 mod rule;
