@@ -1,5 +1,5 @@
 -- The gadget of a rule as the program writes it: with parents, last sets and the places of weights.
-use Rattle.std.specs.Prelude.{ℕ, ◌+◌, ◌*◌, ◌^◌, ◌<◌, ⊤, ℤ, List, [], ◌∷◌, ◌++◌, map, Option, Some, None, ◌==◌, if◌then◌else◌}
+use Rattle.std.specs.Prelude.{◌≡◌, All, length, slice_index_or, ℕ, ◌+◌, ◌*◌, ◌^◌, ◌<◌, ⊤, ℤ, List, [], ◌∷◌, ◌++◌, map, Option, Some, None, ◌==◌, if◌then◌else◌}
 use Rattle.std.specs.List.{range_with_len}
 use Rattle.std.specs.Option.{option_map}
 use Rattle.lab_defs_game.specs.Paths.{SetAction}
@@ -28,6 +28,10 @@ with_rows f rows = record { sets1 = f.sets1; sets2 = f.sets2; rows = rows; set_r
 abbrev pub IsLow : (further : ℕ) → Option (SetId × ℕ) → Type 0
 IsLow further None = ⊤
 IsLow further (Some t) = further + t.0.0 < 2 ^ 32
+
+-- so are the last steps of a seat on rows
+abbrev pub AreLow : (further seat : ℕ) → List FormRow → Type 0
+AreLow further seat rows = All (λ r. IsLow further (last_of r seat)) rows
 
 -- how many gadget sets there are
 abbrev pub gadget_count : Rule → (roots : ℕ) → ℕ
@@ -77,6 +81,10 @@ entered_from rule roots number (s ∷ sets) = entered_set rule roots number s �
 -- the opponent's sets in a gadget: the gadget sets, and then some of the subgame
 abbrev pub opponent_sets : Rule → (roots : ℕ) → List FormSet → List FormSet
 opponent_sets rule roots sets = first_sets rule roots (gadget_count rule roots) ++ entered_from rule roots 0 sets
+
+-- only the first sets follow none
+abbrev pub RootsFirst : (roots : ℕ) → List FormSet → Type 0
+RootsFirst roots sets = (i : ℕ) → i < length sets → (slice_index_or sets i (record { parent = None; actions = 0; first_weight = 0 })).parent ≡ None → i < roots
 
 -- ---- rows
 

@@ -119,8 +119,7 @@ pub fn entered_set(name: RuleName, roots: u32, number: u32, set: &FormSet) -> Fo
 
 /// A row of the subgame, after the gadget sets.
 pub fn entered_row(name: RuleName, opponent: u32, roots: u32, row: &FormRow) -> FormRow
-    requires one { IsLow (gadget_count (rule_model name) roots) (last_of row.now 1) }
-    requires two { IsLow (gadget_count (rule_model name) roots) (last_of row.now 2) }
+    requires { IsLow (gadget_count (rule_model name) roots) (last_of row.now opponent) }
     ensures { result ≡ entered_row (rule_model name) opponent roots row.now }
 {
     let [one, two] = row.last;

@@ -2,12 +2,14 @@
 #![tactic(auto)]
 
 mod factors;
+mod gadget;
 mod gadget_parts;
 mod name;
 mod path;
 mod rule;
 mod view;
 
+pub use gadget::write_gadget;
 pub use name::RuleName;
 pub use path::{PathSet, PathStep};
 pub use rule::Rule;
