@@ -1,5 +1,5 @@
 -- The first row of a view has as many factors of the opponent as any.
-use Rattle.std.proofs.Common.{◌≡◌, ℕ, ◌+◌, ◌<◌, ◌≤◌, get_or, length, Option, Some, None, List, [], pos, sym, ap, ◌∙◌, subst, arith}
+use Rattle.std.proofs.Common.{◌≡◌, ℕ, ◌+◌, ◌<◌, ◌≤◌, get_or, length, Option, List, [], pos, sym, ap, ◌∙◌, arith}
 use Rattle.std.proofs.lemmas.List.{get_or-map, length-map}
 use Rattle.lab_defs_game.specs.Forms as model
 use Rattle.lab_defs_game.specs.Seats.{other}

@@ -1,24 +1,24 @@
 -- The gadget that the program writes is that of the definitions.
-use Rattle.std.proofs.Common.{◌≡◌, ℕ, zero, suc, ◌+◌, ◌<◌, ◌≤◌, ◌⊎◌, inl, inr, ℤ, List, [], ◌∷◌, ◌++◌, map, length, get_or, Option, Some, None, refl, sym, ap, ◌∙◌, subst, arith}
+use Rattle.std.proofs.Common.{◌≡◌, ℕ, zero, suc, ◌+◌, ◌<◌, inl, inr, ℤ, List, [], ◌∷◌, ◌++◌, map, length, get_or, Option, Some, None, refl, sym, ap, ◌∙◌, subst, arith}
 use Rattle.std.specs.List.{range_with_len}
 use Rattle.std.specs.Option.{option_map}
-use Rattle.std.proofs.lemmas.List.{length-map, map-append}
+use Rattle.std.proofs.lemmas.List.{get_or-map, length-map, map-append}
+use Rattle.std.proofs.lemmas.List.FromFn.{get_or-map-range_with_len, length-map-range_with_len}
 use Rattle.std.proofs.lemmas.Simd.{map-map}
 use Rattle.lab_math.proofs.Ranges.{map_range_same}
 use Rattle.lab_defs_game.specs.Forms as model
 use Rattle.lab_defs_game.specs.Paths.{SetAction, last_step, last_after}
 use Rattle.lab_defs_game.specs.Seats.{IsSeat, other}
-use Rattle.lab_defs_value.specs.Parents.{IsChain}
 use Rattle.lab_defs_value.specs.Allowances.{Rule}
-use Rattle.lab_defs_value.specs.Gadgets.{gadget_sets, follow_step, terminate_step, raised, entered_path, sets_entered, with_path, terminate_row, gadget}
-use Rattle.lab_defs_value.proofs.Chains.{AreBelow, path_of_chain, chain_of_path}
+use Rattle.lab_defs_value.specs.Gadgets.{gadget_sets, terminate_step, raised, entered_path, sets_entered, with_path, terminate_row, gadget}
+use Rattle.lab_defs_value.proofs.Chains.{path_of_chain, chain_of_path}
 use Rattle.lab_defs_value.proofs.Entries.{entered_below, entered_ok, ending_ok}
 use Rattle.lab_form.specs.declared.items.SetId.{SetId}
 use Rattle.lab_form.specs.declared.items.FormSet.{FormSet}
 use Rattle.lab_form.specs.declared.items.FormRow.{FormRow}
 use Rattle.lab_form.specs.Forms.{FormValue, sets_of, last_of, empty_form, IsStepBelow, IsNextRow, AreSets, AreRows, taken_model, sets_model, whole_path, row_model, form_model}
-use Rattle.lab_form.proofs.CallerLemmas.{model_length, model_actions, model_parent, model_below, whole_path_last, whole_path_chain}
-use Rattle.lab_rule.specs.Gadgets.{with_sets, with_rows, gadget_count, step_id, raised_step, opponent_sets, entered_row, further_row, further_rows, RootsFirst}
+use Rattle.lab_form.proofs.CallerLemmas.{model_actions, model_parent, model_below, whole_path_last, whole_path_chain}
+use Rattle.lab_rule.specs.Gadgets.{with_sets, with_rows, step_id, raised_step, opponent_sets, entered_row, further_row, further_rows, RootsFirst}
 use Rattle.lab_rule.proofs.StepLemmas.{no_set}
 use Rattle.lab_rule.proofs.FactorLemmas.{no_row}
 use Rattle.lab_rule.proofs.GadgetLemmas.{count_is, opponent_model, raised_there, terminate_there}
@@ -125,7 +125,7 @@ module _ (rule : Rule) (f : FormValue) (roots factors : ℕ) (limits : ℕ → �
       (rows_by 2 f.sets1 S
       (λ r next. ap (λ path. record { worth = r.worth.0; path1 = whole_path f.sets1 (last_of r 1); path2 = path; pad1 = get_or r.pads 0 0; pad2 = get_or r.pads 1 0 }) (entered_whole rule roots f.sets2 ok2 first (last_of r 2) next.two))
       (λ i l. let z = terminate_row rule 2 factors i (limits i) in ap (λ path. record { worth = z.worth; path1 = whole_path f.sets1 None; path2 = path; pad1 = 0; pad2 = factors }) (further_whole rule roots f.sets2 ok2 first i l)
-          ∙ ap (λ path. record { worth = z.worth; path1 = path; path2 = terminate_step rule i ∷ []; pad1 = 0; pad2 = factors }) (no_path (length (sets_model f.sets1)) (sets_model f.sets1))))
+      ∙ ap (λ path. record { worth = z.worth; path1 = path; path2 = terminate_step rule i ∷ []; pad1 = 0; pad2 = factors }) (no_path (length (sets_model f.sets1)) (sets_model f.sets1))))
       ∙ ap (λ (ss : List model.FormSet). record { sets1 = sets_model f.sets1; sets2 = ss; rows = (gadget rule 2 roots factors limits (form_model f)).rows }) (opponent_model rule roots f.sets2)
     where
       no_path : (n : ℕ) (ss : List model.FormSet) → model.chain_within ss n None ≡ []
@@ -140,16 +140,61 @@ module _ (rule : Rule) (f : FormValue) (roots factors : ℕ) (limits : ℕ → �
       (rows_by 1 S f.sets2
       (λ r next. ap (λ path. record { worth = r.worth.0; path1 = path; path2 = whole_path f.sets2 (last_of r 2); pad1 = get_or r.pads 0 0; pad2 = get_or r.pads 1 0 }) (entered_whole rule roots f.sets1 ok1 first (last_of r 1) next.one))
       (λ i l. let z = terminate_row rule 1 factors i (limits i) in ap (λ path. record { worth = z.worth; path1 = path; path2 = whole_path f.sets2 None; pad1 = factors; pad2 = 0 }) (further_whole rule roots f.sets1 ok1 first i l)
-          ∙ ap (λ path. record { worth = z.worth; path1 = terminate_step rule i ∷ []; path2 = path; pad1 = factors; pad2 = 0 }) (no_path (length (sets_model f.sets2)) (sets_model f.sets2))))
+      ∙ ap (λ path. record { worth = z.worth; path1 = terminate_step rule i ∷ []; path2 = path; pad1 = factors; pad2 = 0 }) (no_path (length (sets_model f.sets2)) (sets_model f.sets2))))
       ∙ ap (λ (ss : List model.FormSet). record { sets1 = ss; sets2 = sets_model f.sets2; rows = (gadget rule 1 roots factors limits (form_model f)).rows }) (opponent_model rule roots f.sets1)
     where
       no_path : (n : ℕ) (ss : List model.FormSet) → model.chain_within ss n None ≡ []
       no_path zero ss = refl
       no_path (suc n) ss = refl
 
-  -- whoever keeps
-  pub gadget_is : (keeper : ℕ) → IsSeat keeper → RootsFirst roots (sets_of f (other keeper)) → form_model (gadget_value rule f keeper roots factors limits set_room row_room) ≡ gadget rule (other keeper) roots factors limits (form_model f)
-  gadget_is keeper (inl e) first =
-      subst (λ k. RootsFirst roots (sets_of f (other k)) → form_model (gadget_value rule f k roots factors limits set_room row_room) ≡ gadget rule (other k) roots factors limits (form_model f)) (sym e) for_one first
-  gadget_is keeper (inr e) first =
-      subst (λ k. RootsFirst roots (sets_of f (other k)) → form_model (gadget_value rule f k roots factors limits set_room row_room) ≡ gadget rule (other k) roots factors limits (form_model f)) (sym e) for_two first
+-- whoever keeps
+pub gadget_is : (rule : Rule) (f : FormValue) (roots factors : ℕ) (limits : ℕ → ℤ) (set_room row_room keeper : ℕ) → IsSeat keeper → AreSets (sets_of f keeper) → AreSets (sets_of f (other keeper))
+    → AreRows f.sets1 f.sets2 f.rows → RootsFirst roots (sets_of f (other keeper)) → form_model (gadget_value rule f keeper roots factors limits set_room row_room) ≡ gadget rule (other keeper) roots factors limits (form_model f)
+gadget_is rule f roots factors limits set_room row_room keeper (inl e) =
+    subst (λ k. AreSets (sets_of f k) → AreSets (sets_of f (other k)) → AreRows f.sets1 f.sets2 f.rows → RootsFirst roots (sets_of f (other k))
+    → form_model (gadget_value rule f k roots factors limits set_room row_room) ≡ gadget rule (other k) roots factors limits (form_model f)) (sym e)
+    (λ own others rows first. for_one rule f roots factors limits set_room row_room own others rows first)
+gadget_is rule f roots factors limits set_room row_room keeper (inr e) =
+    subst (λ k. AreSets (sets_of f k) → AreSets (sets_of f (other k)) → AreRows f.sets1 f.sets2 f.rows → RootsFirst roots (sets_of f (other k))
+    → form_model (gadget_value rule f k roots factors limits set_room row_room) ≡ gadget rule (other k) roots factors limits (form_model f)) (sym e)
+    (λ own others rows first. for_two rule f roots factors limits set_room row_room others own rows first)
+
+-- ---- the form as it is written
+
+-- the sets of both seats
+abbrev pub sets_value : Rule → FormValue → (keeper roots set_room row_room : ℕ) → FormValue
+sets_value rule f keeper roots set_room row_room =
+    let o = other keeper in
+    with_sets (with_sets (empty_form set_room row_room) keeper (sets_of f keeper)) o (opponent_sets rule roots (sets_of f o))
+
+-- the rows of the subgame may be added to them
+entered_stand : (rule : Rule) (f : FormValue) (roots o i : ℕ) (d : FormRow) → i < length (map (entered_row rule o roots) f.rows) → AreRows f.sets1 f.sets2 f.rows → (sets1 sets2 : List FormSet)
+    → ((r : FormRow) → IsNextRow f.sets1 f.sets2 r → IsNextRow sets1 sets2 (entered_row rule o roots r)) → IsNextRow sets1 sets2 (get_or (map (entered_row rule o roots) f.rows) i d)
+entered_stand rule f roots o i d l rows sets1 sets2 one =
+    let there : i < length f.rows = omega (arith, l, length-map f.rows (entered_row rule o roots)) in
+    subst (IsNextRow sets1 sets2) (sym (get_or-map (entered_row rule o roots) f.rows i no_row d there)) (one (get_or f.rows i no_row) (rows i no_row there))
+
+pub entered_rows_there : (rule : Rule) (f : FormValue) (roots set_room row_room keeper : ℕ) → IsSeat keeper → AreRows f.sets1 f.sets2 f.rows →
+    let g = sets_value rule f keeper roots set_room row_room in AreRows g.sets1 g.sets2 (map (entered_row rule (other keeper) roots) f.rows)
+entered_rows_there rule f roots set_room row_room keeper (inl e) =
+    subst (λ k. AreRows f.sets1 f.sets2 f.rows → let g = sets_value rule f k roots set_room row_room in AreRows g.sets1 g.sets2 (map (entered_row rule (other k) roots) f.rows)) (sym e)
+    (λ rows i d l. entered_stand rule f roots 2 i d l rows f.sets1 (opponent_sets rule roots f.sets2) (λ r next. record { one = next.one; two = raised_there rule roots f.sets2 (last_of r 2) next.two }))
+entered_rows_there rule f roots set_room row_room keeper (inr e) =
+    subst (λ k. AreRows f.sets1 f.sets2 f.rows → let g = sets_value rule f k roots set_room row_room in AreRows g.sets1 g.sets2 (map (entered_row rule (other k) roots) f.rows)) (sym e)
+    (λ rows i d l. entered_stand rule f roots 1 i d l rows (opponent_sets rule roots f.sets1) f.sets2 (λ r next. record { one = raised_there rule roots f.sets1 (last_of r 1) next.one; two = next.two }))
+
+-- so may the further rows
+further_stand : (rule : Rule) (o factors : ℕ) (limits : ℕ → ℤ) (roots i : ℕ) (d : FormRow) → i < length (further_rows rule o factors limits roots) → (sets1 sets2 : List FormSet)
+    → ((root : ℕ) → root < roots → IsNextRow sets1 sets2 (further_row rule o factors root (limits root))) → IsNextRow sets1 sets2 (get_or (further_rows rule o factors limits roots) i d)
+further_stand rule o factors limits roots i d l sets1 sets2 one =
+    let there : i < roots = omega (arith, l, length-map-range_with_len (λ i. further_row rule o factors i (limits i)) 0 roots) in
+    subst (IsNextRow sets1 sets2) (sym (get_or-map-range_with_len (λ i. further_row rule o factors i (limits i)) 0 roots i i d there (omega arith))) (one i there)
+
+pub further_rows_there : (rule : Rule) (f : FormValue) (roots factors : ℕ) (limits : ℕ → ℤ) (set_room row_room keeper : ℕ) → IsSeat keeper →
+    let g = sets_value rule f keeper roots set_room row_room in AreRows g.sets1 g.sets2 (further_rows rule (other keeper) factors limits roots)
+further_rows_there rule f roots factors limits set_room row_room keeper (inl e) =
+    subst (λ k. let g = sets_value rule f k roots set_room row_room in AreRows g.sets1 g.sets2 (further_rows rule (other k) factors limits roots)) (sym e)
+    (λ i d l. further_stand rule 2 factors limits roots i d l f.sets1 (opponent_sets rule roots f.sets2) (λ root r. record { one = tt; two = terminate_there rule roots root f.sets2 r }))
+further_rows_there rule f roots factors limits set_room row_room keeper (inr e) =
+    subst (λ k. let g = sets_value rule f k roots set_room row_room in AreRows g.sets1 g.sets2 (further_rows rule (other k) factors limits roots)) (sym e)
+    (λ i d l. further_stand rule 1 factors limits roots i d l (opponent_sets rule roots f.sets1) f.sets2 (λ root r. record { one = terminate_there rule roots root f.sets1 r; two = tt }))

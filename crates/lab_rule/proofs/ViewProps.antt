@@ -1,5 +1,5 @@
 -- What holds of a view can be read of its field.
-use Rattle.std.proofs.Common.{◌≡◌, ℕ, ◌⊎◌, inl, inr, Option, Some, None, List, ap, arith}
+use Rattle.std.proofs.Common.{ℕ, inl, inr, Option, Some, None, List, ap, arith}
 use Rattle.std.proofs.Props.{props}
 use Rattle.std.specs.Coded.{×_prop, Unit-prop, le_prop}
 use Rattle.std.proofs.Math.Logic.{∥∥₁_elim}

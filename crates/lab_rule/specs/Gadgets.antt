@@ -6,7 +6,7 @@ use Rattle.lab_defs_game.specs.Paths.{SetAction}
 use Rattle.lab_defs_value.specs.Tables.{weights_of}
 use Rattle.lab_defs_value.specs.Replies.{worth_to}
 use Rattle.lab_defs_value.specs.Allowances.{Rule, cfrd, reach, margin}
-use Rattle.lab_defs_value.specs.Gadgets.{follow_step, terminate_step, terminate_worth, raised, entered_parent}
+use Rattle.lab_defs_value.specs.Gadgets.{terminate_step, terminate_worth, raised, entered_parent}
 use Rattle.lab_form.specs.declared.items.SetId.{SetId}
 use Rattle.lab_form.specs.declared.items.FormSet.{FormSet}
 use Rattle.lab_form.specs.declared.items.FormRow.{FormRow}

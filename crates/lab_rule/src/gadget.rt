@@ -129,7 +129,10 @@ fn root_limit(view: &View<'_>, allowances: &[Worth], root: u32) -> Worth
     ensures small { unsigned_abs result.0 ≤ 2 ^ 124 }
 {
     let above = view.sets.len() - view.roots as usize;
-    raised(view.sets[above + root as usize].bound, allowances[root as usize])
+    raised(
+        view.sets[above + root as usize].bound,
+        allowances[root as usize],
+    )
 }
 
 // A bound raised by an allowance.

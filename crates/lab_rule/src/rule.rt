@@ -42,8 +42,11 @@ pub trait Rule {
         ensures set_room { form.new.set_room ≡ form.old.set_room }
         ensures row_room { form.new.row_room ≡ form.old.row_room };
 
-    // there is an allowance for each root set, and none is above 2^123
-    ghost bounded: { (r : Self) (v : views.View) → views.IsView v → (length (allowed r v) ≡ v.roots) × All (λ n. n ≤ 2 ^ 123) (allowed r v) };
+    // there is an allowance for each root set
+    ghost counted: { (r : Self) (v : views.View) → length (allowed r v) ≡ v.roots };
+
+    // none is above 2^123
+    ghost bounded: { (r : Self) (v : views.View) → views.IsView v → All (λ n. n ≤ 2 ^ 123) (allowed r v) };
 
     // no bound above the subgame rises: root sets within bound and allowance back up no more than the bound of the first set
     ghost keeps: { (r : Self) (v : views.View) → views.IsView v → KeepsBounds v (allowed r v) };
