@@ -1,6 +1,6 @@
 //! The rule.
 
-ghost use Rattle.std.specs.Prelude.{◌≡◌, ◌+◌, ◌<◌, ◌≤◌, ◌^◌, length};
+ghost use Rattle.std.specs.Prelude.{◌≡◌, ◌+◌, ◌<◌, ◌≤◌, ◌^◌, length, pos};
 ghost use Rattle.lab_defs_value.specs.Allowances.{reach};
 ghost use Rattle.lab_defs_value.specs.Views.{view_allowance};
 ghost use Rattle.lab_rule.specs.Views.{view_model};
@@ -45,7 +45,7 @@ impl Rule for Reach {
     fn allowances(&self, view: &View<'_>, out: &mut [Worth]) {
         let above = view.sets.len() - view.roots as usize;
         for root in 0..out.len() {
-            out[root] = Worth(allowance(view, above + root) as i128);
+            out[root] = worth_of(allowance(view, above + root));
         }
     }
 
@@ -67,4 +67,12 @@ fn allowance(view: &View<'_>, place: usize) -> u128
     let from = step.from as usize;
     let whole = pool(allowance(view, from), view.sets[from].bound, step.through);
     even_part(whole, step.count, at)
+}
+
+// An allowance as a worth.
+fn worth_of(allowance: u128) -> Worth
+    requires { allowance ≤ 2 ^ 123 }
+    ensures { result ≡ record { 0 = pos allowance } }
+{
+    Worth(allowance as i128)
 }
