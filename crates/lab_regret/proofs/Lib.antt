@@ -1,0 +1,7 @@
+mod PathSteps
+mod PowerLemmas
+mod PlaceLemmas
+mod RowLaws
+mod ReachLemmas
+mod WayLemmas
+mod TableLemmas

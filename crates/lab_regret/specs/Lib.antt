@@ -1,0 +1,5 @@
+pub mod Kept
+pub mod Backed
+pub mod Reached
+pub mod Powers
+pub mod Settled
