@@ -5,3 +5,4 @@ mod RowLaws
 mod ReachLemmas
 mod WayLemmas
 mod TableLemmas
+mod RowLemmas

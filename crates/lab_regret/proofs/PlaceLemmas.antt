@@ -1,5 +1,5 @@
 -- Numbers at places, and worths as numbers.
-use Rattle.std.proofs.Common.{◌≡◌, ℕ, zero, suc, ◌+◌, ◌<◌, ◌≤◌, ◌⊎◌, inl, inr, ℤ, pos, ◌+ℤ◌, cond, eqb, List, [], ◌∷◌, length, get_or, set, refl, sym, ap, ◌∙◌, subst, arith, get_or-set_same, get_or-set_other, eq-eqb}
+use Rattle.std.proofs.Common.{◌≡◌, ℕ, zero, suc, ◌+◌, ◌<◌, ◌≤◌, ◌⊎◌, inl, inr, ℤ, pos, ◌+ℤ◌, Bool, true, false, cond, eqb, List, [], ◌∷◌, length, get_or, set, refl, sym, ap, ◌∙◌, subst, arith, get_or-set_same, get_or-set_other, eq-eqb}
 use Rattle.std.proofs.lemmas.Int.{ints}
 use Rattle.std.proofs.lemmas.Bool.{cases_eq}
 use Rattle.lab_math.proofs.BelowLemmas.{eqb_apart}
@@ -47,3 +47,8 @@ done_more xs first n new h there is before a l = by (cases_eq a n)
     by : (a ≡ n) ⊎ (a ≡ n → ⊥) → at (numbers (set xs (first + n) new)) (first + a) ≡ h a
     by (inl e) = ap (λ a. at (numbers (set xs (first + n) new)) (first + a)) e ∙ number_written xs (first + n) new there ∙ is ∙ ap h (sym e)
     by (inr ne) = number_kept xs (first + n) (first + a) new (λ e. ne (omega (arith, e))) ∙ before a (omega (arith, l, ne))
+
+-- nothing added
+pub nothing_added : (b : Bool) (x : ℤ) → x ≡ x +ℤ cond b (pos 0) (pos 0)
+nothing_added true x = omega (arith, ints)
+nothing_added false x = omega (arith, ints)

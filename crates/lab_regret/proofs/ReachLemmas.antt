@@ -39,6 +39,13 @@ path_none sets = at (length (sets_model sets))
     at zero = refl
     at (suc n) = refl
 
+-- so its weight and its power are 1
+pub weight_none : (sets : List FormSet) (weights : List ℕ) → weight_to sets weights None ≡ 1
+weight_none sets weights = ap (product_over (factor (actions_in sets) weights)) (path_none sets)
+
+pub power_none : (d : ℕ) (sets : List FormSet) → power_to d sets None ≡ 1
+power_none d sets = ap (λ path. d ^ deciding (actions_in sets) path) (path_none sets) ∙ pow-zero d
+
 module _ (sets : List FormSet) (ok : AreFew sets) (t : SetId × ℕ) (there : IsStepBelow sets (Some t)) where
   action_there : t.1 < (set_at sets t.0.0).actions
   action_there = subst (λ n. t.1 < n) (actions_is sets t.0.0 no_set there.0) there.1
@@ -192,7 +199,7 @@ at_next sets ok value i l old new was same more past o b w = by (cases_lt (place
     by (inr k) = late o b (omega (arith, k, w))
 
 -- a step at a set, whatever the action
-step_at : (sets : List FormSet) (i a : ℕ) → i < length sets → a < (set_at sets i).actions → IsStepBelow sets (Some (record { 0 = i }, a))
+pub step_at : (sets : List FormSet) (i a : ℕ) → i < length sets → a < (set_at sets i).actions → IsStepBelow sets (Some (record { 0 = i }, a))
 step_at sets i a l w = (l, subst (λ n. a < n) (sym (actions_is sets i no_set l)) w)
 
 -- the last decision above a set

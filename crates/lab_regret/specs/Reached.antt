@@ -1,5 +1,5 @@
 -- The pass down: for each decision the weights on the way to it, and the power of the grid.
-use Rattle.std.specs.Prelude.{ℕ, ◌≡◌, ◌+◌, ◌*◌, ◌^◌, ◌<◌, ◌≤◌, ◌==◌, ℤ, pos, ◌*ℤ◌, List, [], length, max, unsigned_abs, Option, None, true, if◌then◌else◌, slice_index, slice_index_or}
+use Rattle.std.specs.Prelude.{ℕ, ◌≡◌, ◌+◌, ◌*◌, ◌^◌, ◌<◌, ◌≤◌, ◌==◌, ℤ, pos, ◌*ℤ◌, List, [], length, max, unsigned_abs, Option, None, true, if◌then◌else◌, slice_index, slice_index_or, All}
 use Rattle.lab_math.specs.Sums.{product_over}
 use Rattle.lab_defs_game.specs.Seats.{other}
 use Rattle.lab_defs_game.specs.Forms.{decides, deciding}
@@ -47,10 +47,15 @@ row_part grid1 grid2 sets1 sets2 seat reach decision r =
     then worth_to seat r.worth.0 *ℤ pos (grid1 ^ pads_of r 1 * grid2 ^ pads_of r 2 * slice_index reach (last_decision (sets (other seat)) (last_of r (other seat))))
     else pos 0
 
--- no row comes to more than 2^77 by its worth, its pads and either seat's reach
-pub record IsSmallRow (grid1 grid2 : ℕ) (sets1 sets2 : List FormSet) (reach1 reach2 : List ℕ) (r : FormRow) : Type 0 where
+-- a row comes to no more than 2^77 by its worth, its pads and the reach of either seat
+pub record IsSmallRow (grid1 grid2 : ℕ) (r : FormRow) (reach1 reach2 : ℕ) : Type 0 where
   pub pads1 : grid1 ^ pads_of r 1 ≤ 2 ^ 77
   pub pads2 : grid2 ^ pads_of r 2 ≤ 2 ^ 77
+  pub one : max 1 (unsigned_abs r.worth.0) * (grid1 ^ pads_of r 1 * grid2 ^ pads_of r 2) * reach1 ≤ 2 ^ 77
+  pub two : max 1 (unsigned_abs r.worth.0) * (grid1 ^ pads_of r 1 * grid2 ^ pads_of r 2) * reach2 ≤ 2 ^ 77
   pub worth : max 1 (unsigned_abs r.worth.0) * (grid1 ^ pads_of r 1 * grid2 ^ pads_of r 2) ≤ 2 ^ 77
-  pub one : max 1 (unsigned_abs r.worth.0) * (grid1 ^ pads_of r 1 * grid2 ^ pads_of r 2) * slice_index reach1 (last_decision sets1 (last_of r 1)) ≤ 2 ^ 77
-  pub two : max 1 (unsigned_abs r.worth.0) * (grid1 ^ pads_of r 1 * grid2 ^ pads_of r 2) * slice_index reach2 (last_decision sets2 (last_of r 2)) ≤ 2 ^ 77
+
+-- so does each row of a form by what stands at its last decisions
+abbrev pub AreSmallRows : (grid1 grid2 : ℕ) (sets1 sets2 : List FormSet) (reach1 reach2 : List ℕ) → List FormRow → Type 0
+AreSmallRows grid1 grid2 sets1 sets2 reach1 reach2 rows =
+    All (λ (r : FormRow). IsSmallRow grid1 grid2 r (slice_index reach1 (last_decision sets1 (last_of r 1))) (slice_index reach2 (last_decision sets2 (last_of r 2)))) rows

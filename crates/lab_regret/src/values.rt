@@ -1,17 +1,70 @@
 //! The pass up: what each decision is worth, and the regrets, from the last information set back.
 
-ghost use Rattle.std.specs.Prelude.{ℕ, ℤ, ◌≡◌, ◌+◌, ◌*◌, ◌^◌, ◌<◌, ◌≤◌, ◌==◌, pos, ◌+ℤ◌, ◌-ℤ◌, ◌*ℤ◌, length, slice_index, if◌then◌else◌, unsigned_abs};
-ghost use Rattle.lab_math.specs.Below.{total_below};
+ghost use Rattle.std.specs.Prelude.{ℕ, ◌≡◌, ◌⊎◌, ◌+◌, ◌*◌, ◌^◌, ◌<◌, ◌≤◌, ◌==◌, pos, ◌+ℤ◌, ◌-ℤ◌, ◌*ℤ◌, length, slice_index, if◌then◌else◌, unsigned_abs};
+ghost use Rattle.std.specs.List.{All};
 ghost use Rattle.lab_defs_value.specs.Bounds.{at};
-ghost use Rattle.lab_regret.specs.Kept.{numbers};
-ghost use Rattle.lab_regret.specs.Settled.{weighed_values, AreSmallAt};
+ghost use Rattle.lab_defs_value.specs.Matching.{pair_grid};
+ghost use Rattle.lab_sizes.specs.Sizes.{IsSmallPair};
+ghost use Rattle.lab_form.specs.Forms.{sets_of, weight_count};
+ghost use Rattle.lab_regret.specs.Kept.{numbers, pair_in};
+ghost use Rattle.lab_regret.specs.Backed.{backed};
+ghost use Rattle.lab_regret.specs.Reached.{power_to, AreAt};
+ghost use Rattle.lab_regret.specs.Settled.{weighed_values, AreSmallAt, HasRegrets};
 
 use super::numbers::{minus, plus, times};
+use super::reach::weights_of;
+use lab_form::Form;
 use lab_units::Worth;
 
-/// Settles a set whose actions have their values, from its first weight on: adds to the regrets what each action is worth more than the set, and
-/// backs the set's value up to the last decision above it.
-pub fn settle_set(
+/// Adds to a seat's regrets what each action is worth more than its set under a pair of tables, set by set from the last one back; before it, each value is
+/// what the rows are worth whose last decision it stands for.
+pub fn settle(
+    form: &Form,
+    seat: u32,
+    grids: [u32; 2],
+    one: &[u32],
+    two: &[u32],
+    powers: &[u128],
+    values: &mut [Worth],
+    regrets: &mut [Worth],
+)
+    requires seat { (seat ≡ 1) ⊎ (seat ≡ 2) }
+    requires small { IsSmallPair (pair_in form.now (slice_index grids 0) (slice_index grids 1) one.now two.now) }
+    requires few { weight_count (sets_of form.now seat) < 2 ^ 32 }
+    requires weights { length (if seat == 1 then one.now else two.now) ≡ weight_count (sets_of form.now seat) }
+    requires within { All (λ w. w ≤ 4096) (if seat == 1 then one.now else two.now) }
+    requires power_places { length powers.now ≡ weight_count (sets_of form.now seat) + 1 }
+    requires powers { AreAt (sets_of form.now seat) (length (sets_of form.now seat)) (power_to (pair_grid (pair_in form.now (slice_index grids 0) (slice_index grids 1) one.now two.now) seat) (sets_of form.now seat)) powers.now }
+    requires places { length values.old ≡ weight_count (sets_of form.now seat) + 1 }
+    requires values { (k : ℕ) → at (numbers values.old) k ≡ backed (pair_in form.now (slice_index grids 0) (slice_index grids 1) one.now two.now) seat (length (sets_of form.now seat)) k }
+    requires sizes { (k : ℕ) → unsigned_abs (at (numbers values.old) k) ≤ 2 ^ 94 }
+    requires regret_places { length regrets.old ≡ weight_count (sets_of form.now seat) }
+    requires regret_sizes { (k : ℕ) → unsigned_abs (at (numbers regrets.old) k) ≤ 2 ^ 107 }
+    ensures places { length regrets.new ≡ length regrets.old }
+    ensures regrets { HasRegrets (pair_in form.now (slice_index grids 0) (slice_index grids 1) one.now two.now) seat (numbers regrets.old) (numbers regrets.new) }
+{
+    let sets = form.sets(seat);
+    let above = form.decisions_above(seat);
+    let weights = of_seat(seat, one, two);
+    let mut i = sets.len();
+    while i > 0 {
+        i -= 1;
+        let first = sets[i].first_weight as usize;
+        let count = weights_of(sets[i].actions);
+        settle_set(first, count, above[i] as usize, weights, powers, values, regrets);
+    }
+}
+
+// The weights of a seat.
+fn of_seat<'a>(seat: u32, one: &'a [u32], two: &'a [u32]) -> &'a [u32]
+    ensures { result.now ≡ (if seat == 1 then one.now else two.now) }
+{
+    if seat == 1 { one } else { two }
+}
+
+// Settles a set whose actions have their values, from its first weight on: adds to the regrets what each action is worth more than the set, and
+// backs the set's value up to the last decision above it.
+fn settle_set(
     first: usize,
     count: usize,
     above: usize,
@@ -20,13 +73,12 @@ pub fn settle_set(
     values: &mut [Worth],
     regrets: &mut [Worth],
 )
-    requires some { 0 < count }
     requires above { above ≤ first }
     requires within { first + count ≤ length weights.now }
     requires places { length values.old ≡ length weights.now + 1 }
     requires power_places { length powers.now ≡ length weights.now + 1 }
     requires regret_places { length regrets.old ≡ length weights.now }
-    requires small { AreSmallAt first count above weights.now powers.now (numbers values.old) (numbers regrets.old) }
+    requires small { 0 < count → AreSmallAt first count above weights.now powers.now (numbers values.old) (numbers regrets.old) }
     ensures places { length values.new ≡ length values.old }
     ensures regret_places { length regrets.new ≡ length regrets.old }
     ensures values { (k : ℕ) → at (numbers values.new) k ≡ at (numbers values.old) k +ℤ (if above == k then weighed_values first count weights.now (numbers values.old) else pos 0) }
@@ -35,6 +87,9 @@ pub fn settle_set(
     ensures before { (k : ℕ) → k < first → at (numbers regrets.new) k ≡ at (numbers regrets.old) k }
     ensures after { (k : ℕ) → first + count ≤ k → at (numbers regrets.new) k ≡ at (numbers regrets.old) k }
 {
+    if count == 0 {
+        return;
+    }
     let set = weighed(first, count, weights, values);
     let value = times(set, powers[above]);
     add_regrets(first, count, powers[first + 1], value, values, regrets);

@@ -8,7 +8,7 @@ use Rattle.lab_form.specs.Forms.{IsStepBelow, actions_in}
 use Rattle.lab_form.specs.Decisions.{last_decision}
 use Rattle.lab_table.proofs.CallerLemmas.{first_is, actions_is, deciding_weights}
 use Rattle.lab_regret.specs.Reached.{weight_to, power_to, AreAt, set_at}
-use Rattle.lab_regret.proofs.ReachLemmas.{no_set, AreFew, at_first, at_next, above_is, above_low, set_within, some_weights, weight_step, weight_past, power_step, power_past}
+use Rattle.lab_regret.proofs.ReachLemmas.{no_set, AreFew, weight_none, power_none, at_first, at_next, above_is, above_low, set_within, some_weights, weight_step, weight_past, power_step, power_past}
 use Rattle.lab_regret.proofs.WayLemmas.{small_reach, small_power}
 use Rattle.lab_regret.proofs.reach.write_reach.Goals as goal
 
@@ -16,8 +16,8 @@ pub loop-i-init : goal.loop-i-init
 loop-i-init c = record {
   places = length-set c.args.reach.now 0 1;
   power_places = length-set c.args.powers.now 0 1;
-  reach = at_first c.args.sets.now (weight_to c.args.sets.now c.args.weights.now) (set c.args.reach.now 0 1) ?;
-  powers = at_first c.args.sets.now (power_to c.args.d c.args.sets.now) (set c.args.powers.now 0 1) ?;
+  reach = at_first c.args.sets.now (weight_to c.args.sets.now c.args.weights.now) (set c.args.reach.now 0 1) (get_or-set_same c.args.reach.now 0 1 0 (omega arith) ∙ sym (weight_none c.args.sets.now c.args.weights.now));
+  powers = at_first c.args.sets.now (power_to c.args.d c.args.sets.now) (set c.args.powers.now 0 1) (get_or-set_same c.args.powers.now 0 1 0 (omega arith) ∙ sym (power_none c.args.d c.args.sets.now));
 }
 
 pub write_set-requires-clause-above : goal.write_set-requires-clause-above
