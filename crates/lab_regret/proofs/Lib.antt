@@ -6,3 +6,5 @@ mod ReachLemmas
 mod WayLemmas
 mod TableLemmas
 mod RowLemmas
+mod SettleLemmas
+mod SettleSteps
