@@ -8,3 +8,6 @@ mod TableLemmas
 mod RowLemmas
 mod SettleLemmas
 mod SettleSteps
+mod PairLemmas
+mod DecisionLemmas
+mod KeptLemmas

@@ -3,3 +3,4 @@ pub mod Backed
 pub mod Reached
 pub mod Powers
 pub mod Settled
+pub mod Played

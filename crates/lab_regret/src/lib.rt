@@ -2,8 +2,10 @@
 #![tactic(auto)]
 
 mod numbers;
+mod play;
 mod powers;
 mod reach;
 mod rows;
+mod sums;
 mod tables;
 mod values;

@@ -4,7 +4,7 @@ ghost use Rattle.std.specs.Prelude.{ℕ, ◌≡◌, ◌+◌, ◌*◌, ◌^◌, �
 ghost use Rattle.std.specs.Int.RustNames.{unsigned_abs};
 ghost use Rattle.lab_math.specs.Sums.{total};
 ghost use Rattle.lab_defs_value.specs.Bounds.{at};
-ghost use Rattle.lab_form.specs.Forms.{AreSets, weight_count};
+ghost use Rattle.lab_form.specs.Forms.{AreSets, AreRows, weight_count};
 ghost use Rattle.lab_regret.specs.Kept.{numbers};
 ghost use Rattle.lab_regret.specs.Reached.{row_part, pads_of, IsSmallRow, AreSmallRows};
 ghost use Rattle.lab_regret.specs.Powers.{ArePowers};
@@ -18,12 +18,15 @@ use lab_units::Worth;
 /// seat, their pads and the other seat's reach counted in.
 pub fn write_rows(
     form: &Form,
+    rows: &[FormRow],
     grids: [u32; 2],
     reach1: &[u128],
     reach2: &[u128],
     values1: &mut [Worth],
     values2: &mut [Worth],
 )
+    requires rows { rows.now ≡ form.now.rows }
+    requires there { AreRows form.now.sets1 form.now.sets2 rows.now }
     requires least1 { 1 ≤ slice_index grids 0 }
     requires least2 { 1 ≤ slice_index grids 1 }
     requires grid1 { slice_index grids 0 ≤ 4096 }
@@ -47,7 +50,6 @@ pub fn write_rows(
 {
     let powers1 = powers(grids[0]);
     let powers2 = powers(grids[1]);
-    let rows = form.rows();
     let last = form.last_decisions();
     set_to_zero(values1);
     set_to_zero(values2);
