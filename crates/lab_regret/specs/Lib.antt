@@ -4,3 +4,5 @@ pub mod Reached
 pub mod Powers
 pub mod Settled
 pub mod Played
+pub mod Room
+pub mod Views

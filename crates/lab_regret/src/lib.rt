@@ -5,7 +5,11 @@ mod numbers;
 mod play;
 mod powers;
 mod reach;
+mod regrets;
+mod room;
 mod rows;
 mod sums;
 mod tables;
 mod values;
+
+pub use regrets::{NoMemory, Regrets};
