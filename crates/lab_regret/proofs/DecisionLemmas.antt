@@ -1,9 +1,8 @@
 -- Numbers for each decision of a seat: by sets and actions, and one after another.
-use Rattle.std.proofs.Common.{◌≡◌, ℕ, zero, suc, ◌+◌, ◌-◌, ◌*◌, ◌^◌, ◌<◌, ◌≤◌, ◌⊎◌, inl, inr, ℤ, pos, ◌+ℤ◌, Bool, true, false, cond, List, [], ◌∷◌, ◌++◌, map, length, get_or, Some, unsigned_abs, refl, sym, ap, ◌∙◌, subst, arith}
-use Rattle.std.specs.Prelude.{◌-ℤ◌, slice_index, nat_le, flat_map}
+use Rattle.std.proofs.Common.{◌≡◌, ℕ, zero, suc, ◌+◌, ◌-◌, ◌<◌, ◌≤◌, ◌⊎◌, inl, inr, ℤ, pos, ◌+ℤ◌, Bool, true, false, cond, List, [], ◌∷◌, ◌++◌, map, length, unsigned_abs, refl, sym, ap, ◌∙◌, subst, arith}
+use Rattle.std.specs.Prelude.{slice_index, nat_le, flat_map}
 use Rattle.std.specs.List.{All, range_with_len}
-use Rattle.std.proofs.lemmas.Bool.{cases_lt, le-leb, leb-true}
-use Rattle.std.proofs.lemmas.Int.{ints}
+use Rattle.std.proofs.lemmas.Bool.{cases_lt}
 use Rattle.std.proofs.lemmas.List.{ext_get_or, get_or_past, length-append, length-map, get_or_append_left, get_or-append-add, get_or-map}
 use Rattle.std.proofs.lemmas.List.FromFn.{get_or-map-range_with_len, length-range_with_len}
 use Rattle.lab_units.specs.declared.worth.Worth.{Worth}
@@ -11,7 +10,6 @@ use Rattle.lab_defs_game.specs.Forms.{decides}
 use Rattle.lab_defs_value.specs.Bounds.{at}
 use Rattle.lab_defs_value.specs.Tables.{weights_of, first_weight}
 use Rattle.lab_defs_value.specs.Matching.{Pair, pair_actions, at_deciding, added}
-use Rattle.lab_table.proofs.CallerLemmas.{next_is, first_le, deciding_weights}
 use Rattle.lab_regret.specs.Kept.{numbers}
 
 -- ---- which decision has a number

@@ -1,19 +1,15 @@
 -- A round on what is kept: what it begins with is small, and what it leaves is of one round more.
-use Rattle.std.proofs.Common.{◌≡◌, ℕ, zero, suc, ◌+◌, ◌*◌, ◌^◌, ◌<◌, ◌≤◌, inl, inr, ℤ, pos, ◌+ℤ◌, cond, true, List, map, length, get_or, Option, Some, None, refl, sym, ap, ◌∙◌, subst, arith, add-one}
-use Rattle.std.specs.Prelude.{◌-ℤ◌, slice_index, unsigned_abs, nat_le}
-use Rattle.std.specs.List.{All, range_with_len}
-use Rattle.std.specs.Option.{option_map}
+use Rattle.std.proofs.Common.{◌≡◌, ℕ, ◌+◌, ◌*◌, ◌^◌, ◌<◌, ◌≤◌, inl, inr, ℤ, pos, ◌+ℤ◌, cond, true, List, length, Some, refl, sym, ap, ◌∙◌, subst, arith}
+use Rattle.std.specs.Prelude.{◌-ℤ◌, slice_index, nat_le}
+use Rattle.std.specs.List.{All}
 use Rattle.std.proofs.lemmas.Bool.{leb-true}
-use Rattle.std.proofs.lemmas.List.{length-map}
 use Rattle.lab_math.specs.Sums.{product_over}
-use Rattle.lab_defs_game.specs.Paths.{SetAction}
 use Rattle.lab_defs_game.specs.Forms.{decides}
 use Rattle.lab_defs_game.specs.Forms as model
 use Rattle.lab_defs_value.specs.Bounds.{at}
-use Rattle.lab_defs_value.specs.Parents.{IsForm}
 use Rattle.lab_defs_value.specs.Tables.{weights_of, first_weight, factor}
 use Rattle.lab_defs_value.specs.Smallness.{IsSmall, HasReach}
-use Rattle.lab_defs_value.specs.Matching.{Pair, pair_actions, pair_of, Regrets, regrets_after, rounded_table, regrets_at, reached_at, at_deciding, added, action_value, set_value, reach_in, pair_weight}
+use Rattle.lab_defs_value.specs.Matching.{Pair, pair_actions, pair_of, regrets_after, rounded_table, regrets_at, reached_at, at_deciding, added, action_value, set_value, reach_in, pair_weight}
 use Rattle.lab_defs_value.proofs.Rounds.{regret_lists_law}
 use Rattle.lab_defs_value.proofs.RoundedTables.{rounded_table_law}
 use Rattle.lab_sizes.specs.Sizes.{IsSmallPair}
@@ -22,9 +18,8 @@ use Rattle.lab_sizes.proofs.SizeRegrets.{regret_size_law}
 use Rattle.lab_form.specs.declared.items.SetId.{SetId}
 use Rattle.lab_form.specs.declared.items.FormSet.{FormSet}
 use Rattle.lab_form.specs.Forms.{FormValue, AreRows, actions_in, weight_count, sets_model, form_model}
-use Rattle.lab_form.proofs.CallerLemmas.{form_is, model_actions, model_parent, model_length}
+use Rattle.lab_form.proofs.CallerLemmas.{form_is, model_actions, model_parent}
 use Rattle.lab_table.proofs.CallerLemmas.{all_is, first_le, next_is, first_is, actions_is, actions_length}
-use Rattle.lab_regret.specs.Kept.{pair_in}
 use Rattle.lab_regret.specs.Reached.{weight_to, AreAt, set_at, HasSmallWays}
 use Rattle.lab_regret.specs.Settled.{HasRegrets}
 use Rattle.lab_regret.specs.Played.{IsBegun}
@@ -68,7 +63,7 @@ ways_from grid sets shares powers each = record {
   reach = λ i a l d w.
       let e = model_actions sets in
       let all = subst (λ (ns : List ℕ). (I a : ℕ) → decides ns I ≡ true → a < slice_index ns I
-          → product_over (factor ns (rounded_table grid ns shares)) (model.chain (sets_model sets) (model.parent_at (sets_model sets) I)) * slice_index (rounded_table grid ns shares) (first_weight ns I + a) ≤ 2 ^ 77) e each in
+      → product_over (factor ns (rounded_table grid ns shares)) (model.chain (sets_model sets) (model.parent_at (sets_model sets) I)) * slice_index (rounded_table grid ns shares) (first_weight ns I + a) ≤ 2 ^ 77) e each in
       subst (λ o. product_over (factor (actions_in sets) (rounded_table grid (actions_in sets) shares)) (model.chain (sets_model sets) o) * slice_index (rounded_table grid (actions_in sets) shares) (first_weight (actions_in sets) i + a) ≤ 2 ^ 77)
       (model_parent sets i no_set l) (all i a d w);
 }

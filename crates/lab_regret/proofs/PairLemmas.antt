@@ -1,7 +1,6 @@
 -- A pair of tables in a form of the program: how large its rows are, and what they back up before any set is done.
-use Rattle.std.proofs.Common.{◌≡◌, ℕ, zero, suc, ◌+◌, ◌*◌, ◌^◌, ◌<◌, ◌≤◌, inl, inr, ℤ, pos, ◌+ℤ◌, ◌*ℤ◌, Bool, true, false, cond, eqb, max, List, [], ◌∷◌, map, length, get_or, Option, Some, None, unsigned_abs, refl, sym, ap, ◌∙◌, subst, arith, mul-le-mul, pow-add}
-use Rattle.std.specs.Prelude.{slice_index, nat_lt, nat_le, neg_ℤ}
-use Rattle.std.specs.List.{All}
+use Rattle.std.proofs.Common.{◌≡◌, ℕ, ◌+◌, ◌*◌, ◌^◌, ◌<◌, ◌≤◌, ℤ, pos, ◌*ℤ◌, Bool, true, false, cond, eqb, max, List, [], ◌∷◌, length, get_or, Option, Some, None, unsigned_abs, refl, sym, ap, ◌∙◌, subst, arith, mul-le-mul, pow-add}
+use Rattle.std.specs.Prelude.{slice_index, neg_ℤ}
 use Rattle.std.proofs.Math.Nat.{one-le-pow}
 use Rattle.std.proofs.lemmas.Int.{ints}
 use Rattle.std.proofs.lemmas.Bool.{lt-ltb, lt-leb}
@@ -11,29 +10,26 @@ use Rattle.lab_math.specs.Sums.{total, product_over}
 use Rattle.lab_math.proofs.Integers.{mul_assoc_z, pos-mul}
 use Rattle.lab_math.proofs.SumLemmas.{total-map}
 use Rattle.lab_math.proofs.Totals.{total_cong_all}
-use Rattle.lab_defs_game.specs.Seats.{IsSeat, other}
 use Rattle.lab_defs_game.specs.Paths.{SetAction}
 use Rattle.lab_defs_game.specs.Forms.{deciding}
 use Rattle.lab_defs_game.specs.Forms as model
 use Rattle.lab_defs_value.specs.Tables.{factor, own_weight}
-use Rattle.lab_defs_value.specs.Parents as value
-use Rattle.lab_defs_value.specs.Replies.{IsTable, worth_to}
-use Rattle.lab_defs_value.specs.Smallness.{IsSmall, row_size}
-use Rattle.lab_defs_value.specs.Matching.{Pair, pair_grid, pair_actions, pair_table, pair_worth, weight_along}
+use Rattle.lab_defs_value.specs.Smallness.{row_size}
+use Rattle.lab_defs_value.specs.Matching.{pair_worth}
 use Rattle.lab_defs_value.proofs.Chains.{IsPath, path_of_chain}
 use Rattle.lab_defs_value.proofs.Sizing.{size_law}
 use Rattle.lab_sizes.specs.Sizes.{IsSmallPair}
 use Rattle.lab_form.specs.declared.items.SetId.{SetId}
 use Rattle.lab_form.specs.declared.items.FormSet.{FormSet}
 use Rattle.lab_form.specs.declared.items.FormRow.{FormRow}
-use Rattle.lab_form.specs.Forms.{FormValue, AreSets, AreRows, IsNextRow, IsStepBelow, sets_of, last_of, actions_in, whole_path, sets_model, row_model, form_model}
+use Rattle.lab_form.specs.Forms.{FormValue, AreSets, AreRows, IsNextRow, IsStepBelow, last_of, whole_path, sets_model, row_model, form_model}
 use Rattle.lab_form.specs.Columns.{place_of_step}
 use Rattle.lab_form.specs.Decisions.{last_deciding, weight_number, last_decision}
-use Rattle.lab_form.proofs.CallerLemmas.{form_actions, model_actions, model_below, whole_path_chain}
+use Rattle.lab_form.proofs.CallerLemmas.{model_actions, model_below, whole_path_chain}
 use Rattle.lab_table.proofs.CallerLemmas.{actions_length}
 use Rattle.lab_regret.specs.Kept.{pair_in}
-use Rattle.lab_regret.specs.Backed.{steps_below, steps_from, decision_below, weight_from, backed}
-use Rattle.lab_regret.specs.Reached.{weight_to, AreAt, pads_of, row_part, IsSmallRow, AreSmallRows}
+use Rattle.lab_regret.specs.Backed.{steps_below, steps_from, decision_below, backed}
+use Rattle.lab_regret.specs.Reached.{weight_to, AreAt, pads_of, row_part, AreSmallRows}
 use Rattle.lab_regret.proofs.RowLaws.{counted, backed_is}
 
 -- ---- sizes of rows
@@ -108,9 +104,10 @@ module _ (f : FormValue) (grid1 grid2 : ℕ) (t1 t2 : List ℕ) (small : IsSmall
 all_below : (ns : List ℕ) (parent : ℕ → Option SetAction) (before : Option SetAction) (path : List SetAction) → IsPath ns parent before path → (steps_below (length ns) path ≡ path) × (steps_from (length ns) path ≡ [])
 all_below ns parent before [] h = (refl, refl)
 all_below ns parent before (t ∷ ts) h =
-    let r = all_below ns parent (Some t) ts h.3 in
-    (ap (λ b. cond b (t ∷ steps_below (length ns) ts) (steps_below (length ns) ts)) (lt-ltb t.set (length ns) h.2.0) ∙ ap (λ us. t ∷ us) r.0,
-    ap (λ b. cond b (t ∷ steps_from (length ns) ts) (steps_from (length ns) ts)) (lt-leb (length ns) t.set h.2.0) ∙ r.1)
+    let r = all_below ns parent (Some t) ts h.3 in (
+      ap (λ b. cond b (t ∷ steps_below (length ns) ts) (steps_below (length ns) ts)) (lt-ltb t.set (length ns) h.2.0) ∙ ap (λ us. t ∷ us) r.0,
+      ap (λ b. cond b (t ∷ steps_from (length ns) ts) (steps_from (length ns) ts)) (lt-leb (length ns) t.set h.2.0) ∙ r.1,
+    )
 
 -- a worth times a weight, and times a share under a condition
 worth_share : (b : Bool) (w : ℤ) (x y z : ℕ) → x * y ≡ z → (w *ℤ pos x) *ℤ pos (cond b y 0) ≡ cond b (w *ℤ pos z) (pos 0)

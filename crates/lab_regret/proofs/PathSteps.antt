@@ -1,11 +1,10 @@
 -- Paths at a set: the steps before it, at it and after it, and the last decision before it.
-use Rattle.std.proofs.Common.{◌≡◌, ℕ, suc, ◌+◌, ◌*◌, ◌<◌, ◌≤◌, ◌⊎◌, inl, inr, Bool, true, false, cond, eqb, ◌||◌, drop, length, List, [], ◌∷◌, ◌++◌, Option, Some, None, refl, sym, ap, ◌∙◌, subst, arith, eqb-true, eq-eqb}
+use Rattle.std.proofs.Common.{◌≡◌, ℕ, ◌+◌, ◌<◌, ◌≤◌, ◌⊎◌, inl, inr, Bool, true, false, cond, eqb, ◌||◌, drop, length, List, [], ◌∷◌, ◌++◌, Option, Some, None, refl, sym, ap, ◌∙◌, subst, arith, eqb-true, eq-eqb}
 use Rattle.std.specs.Prelude.{slice_index, nat_lt, nat_le}
 use Rattle.std.specs.List.{filter}
-use Rattle.std.proofs.lemmas.Bool.{cases_eq, cases_lt, lt-ltb, le-ltb, le-leb, lt-leb}
+use Rattle.std.proofs.lemmas.Bool.{cases_lt, lt-ltb, le-ltb, le-leb, lt-leb}
 use Rattle.std.proofs.lemmas.List.{append-nil}
 use Rattle.std.proofs.lemmas.List.Elements.{filter-append}
-use Rattle.lab_math.proofs.BelowLemmas.{eqb_apart}
 use Rattle.lab_defs_game.specs.Paths.{SetAction, last_after, last_step}
 use Rattle.lab_defs_game.specs.Forms.{decides}
 use Rattle.lab_defs_game.proofs.GameLemmas.{last_after_push}
@@ -14,7 +13,7 @@ use Rattle.lab_defs_value.specs.Parents.{passes_through, path_from, IsStepBelow}
 use Rattle.lab_defs_value.specs.Matching.{path_before, path_after, takes}
 use Rattle.lab_defs_value.proofs.Chains.{IsPath}
 use Rattle.lab_form.specs.Decisions.{last_deciding, weight_number}
-use Rattle.lab_table.proofs.CallerLemmas.{first_le, next_is, deciding_weights}
+use Rattle.lab_table.proofs.CallerLemmas.{first_le, next_is}
 use Rattle.lab_regret.specs.Backed.{steps_below, steps_from, decision_below}
 
 -- ---- a path that passes through a set
@@ -23,9 +22,10 @@ use Rattle.lab_regret.specs.Backed.{steps_below, steps_from, decision_below}
 later_steps : (ns : List ℕ) (parent : ℕ → Option SetAction) (t : SetAction) (path : List SetAction) (n : ℕ) → IsPath ns parent (Some t) path → n ≤ t.set + 1 → (steps_below n path ≡ []) × (steps_from n path ≡ path)
 later_steps ns parent t [] n h l = (refl, refl)
 later_steps ns parent t (u ∷ us) n h l =
-    let r = later_steps ns parent u us n h.3 (omega (arith, l, h.1)) in
-    (ap (λ b. cond b (u ∷ steps_below n us) (steps_below n us)) (le-ltb u.set n (omega (arith, l, h.1))) ∙ r.0,
-    ap (λ b. cond b (u ∷ steps_from n us) (steps_from n us)) (le-leb n u.set (omega (arith, l, h.1))) ∙ ap (λ us. u ∷ us) r.1)
+    let r = later_steps ns parent u us n h.3 (omega (arith, l, h.1)) in (
+      ap (λ b. cond b (u ∷ steps_below n us) (steps_below n us)) (le-ltb u.set n (omega (arith, l, h.1))) ∙ r.0,
+      ap (λ b. cond b (u ∷ steps_from n us) (steps_from n us)) (le-leb n u.set (omega (arith, l, h.1))) ∙ ap (λ us. u ∷ us) r.1,
+    )
 
 -- a step before a set that the path comes to is at an earlier one
 comes_before : (ns : List ℕ) (parent : ℕ → Option SetAction) (t : SetAction) (path : List SetAction) (I : ℕ) → IsPath ns parent (Some t) path → passes_through I path ≡ true → t.set < I
@@ -58,31 +58,35 @@ split_at ns parent before (t ∷ ts) I h on = at (eqb t.set I) refl on (split_at
         let two = later_steps ns parent t ts (I + 1) h.3 (omega (arith, same)) in
         let from : path_from I (t ∷ ts) ≡ t ∷ ts = ap (λ b. cond b (t ∷ ts) (path_from I ts)) e in
         let before : path_before I (t ∷ ts) ≡ [] = ap (λ b. cond b [] (t ∷ path_before I ts)) e in
-        let after : path_after I (t ∷ ts) ≡ ts = ap (drop 1) from in
-        (t, record {
-          below = ap (λ b. cond b (t ∷ steps_below I ts) (steps_below I ts)) (le-ltb t.set I (omega (arith, same))) ∙ one.0 ∙ sym before;
-          from = ap (λ b. cond b (t ∷ steps_from I ts) (steps_from I ts)) (le-leb I t.set (omega (arith, same))) ∙ ap (λ us. t ∷ us) one.1 ∙ sym from;
-          below_next = ap (λ b. cond b (t ∷ steps_below (I + 1) ts) (steps_below (I + 1) ts)) (lt-ltb t.set (I + 1) (omega (arith, same))) ∙ ap (λ us. t ∷ us) two.0 ∙ sym (ap (λ us. us ++ t ∷ []) before);
-          from_next = ap (λ b. cond b (t ∷ steps_from (I + 1) ts) (steps_from (I + 1) ts)) (lt-leb (I + 1) t.set (omega (arith, same))) ∙ two.1 ∙ sym after;
-          here = from ∙ sym (ap (λ us. t ∷ us) after);
-          at_set = same;
-          takes = λ a. ap (λ b. cond b (eqb t.action a) (takes I a ts)) e;
-        })
+        let after : path_after I (t ∷ ts) ≡ ts = ap (drop 1) from in (
+          t,
+          record {
+            below = ap (λ b. cond b (t ∷ steps_below I ts) (steps_below I ts)) (le-ltb t.set I (omega (arith, same))) ∙ one.0 ∙ sym before;
+            from = ap (λ b. cond b (t ∷ steps_from I ts) (steps_from I ts)) (le-leb I t.set (omega (arith, same))) ∙ ap (λ us. t ∷ us) one.1 ∙ sym from;
+            below_next = ap (λ b. cond b (t ∷ steps_below (I + 1) ts) (steps_below (I + 1) ts)) (lt-ltb t.set (I + 1) (omega (arith, same))) ∙ ap (λ us. t ∷ us) two.0 ∙ sym (ap (λ us. us ++ t ∷ []) before);
+            from_next = ap (λ b. cond b (t ∷ steps_from (I + 1) ts) (steps_from (I + 1) ts)) (lt-leb (I + 1) t.set (omega (arith, same))) ∙ two.1 ∙ sym after;
+            here = from ∙ sym (ap (λ us. t ∷ us) after);
+            at_set = same;
+            takes = λ a. ap (λ b. cond b (eqb t.action a) (takes I a ts)) e;
+          },
+        )
     at false e p more =
         let low : t.set < I = comes_before ns parent t ts I h.3 p in
         let rest = more p in
         let r = rest.1 in
         let from : path_from I (t ∷ ts) ≡ path_from I ts = ap (λ b. cond b (t ∷ ts) (path_from I ts)) e in
-        let before : path_before I (t ∷ ts) ≡ t ∷ path_before I ts = ap (λ b. cond b [] (t ∷ path_before I ts)) e in
-        (rest.0, record {
-          below = ap (λ b. cond b (t ∷ steps_below I ts) (steps_below I ts)) (lt-ltb t.set I low) ∙ ap (λ us. t ∷ us) r.below ∙ sym before;
-          from = ap (λ b. cond b (t ∷ steps_from I ts) (steps_from I ts)) (lt-leb I t.set low) ∙ r.from ∙ sym from;
-          below_next = ap (λ b. cond b (t ∷ steps_below (I + 1) ts) (steps_below (I + 1) ts)) (lt-ltb t.set (I + 1) (omega (arith, low))) ∙ ap (λ us. t ∷ us) r.below_next ∙ sym (ap (λ us. us ++ rest.0 ∷ []) before);
-          from_next = ap (λ b. cond b (t ∷ steps_from (I + 1) ts) (steps_from (I + 1) ts)) (lt-leb (I + 1) t.set (omega (arith, low))) ∙ r.from_next ∙ sym (ap (drop 1) from);
-          here = from ∙ r.here ∙ sym (ap (λ us. rest.0 ∷ us) (ap (drop 1) from));
-          at_set = r.at_set;
-          takes = λ a. ap (λ b. cond b (eqb t.action a) (takes I a ts)) e ∙ r.takes a;
-        })
+        let before : path_before I (t ∷ ts) ≡ t ∷ path_before I ts = ap (λ b. cond b [] (t ∷ path_before I ts)) e in (
+          rest.0,
+          record {
+            below = ap (λ b. cond b (t ∷ steps_below I ts) (steps_below I ts)) (lt-ltb t.set I low) ∙ ap (λ us. t ∷ us) r.below ∙ sym before;
+            from = ap (λ b. cond b (t ∷ steps_from I ts) (steps_from I ts)) (lt-leb I t.set low) ∙ r.from ∙ sym from;
+            below_next = ap (λ b. cond b (t ∷ steps_below (I + 1) ts) (steps_below (I + 1) ts)) (lt-ltb t.set (I + 1) (omega (arith, low))) ∙ ap (λ us. t ∷ us) r.below_next ∙ sym (ap (λ us. us ++ rest.0 ∷ []) before);
+            from_next = ap (λ b. cond b (t ∷ steps_from (I + 1) ts) (steps_from (I + 1) ts)) (lt-leb (I + 1) t.set (omega (arith, low))) ∙ r.from_next ∙ sym (ap (drop 1) from);
+            here = from ∙ r.here ∙ sym (ap (λ us. rest.0 ∷ us) (ap (drop 1) from));
+            at_set = r.at_set;
+            takes = λ a. ap (λ b. cond b (eqb t.action a) (takes I a ts)) e ∙ r.takes a;
+          },
+        )
 
 -- a path that does not pass through a set has the same steps before it as before the next
 pub record IsPast (I : ℕ) (path : List SetAction) : Type 0 where

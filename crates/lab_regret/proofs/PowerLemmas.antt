@@ -1,9 +1,9 @@
 -- Powers of a grid that are not too large.
-use Rattle.std.proofs.Common.{◌≡◌, ℕ, zero, suc, ◌+◌, ◌-◌, ◌*◌, ◌^◌, ◌<◌, ◌≤◌, ◌⊎◌, inl, inr, List, length, get_or, set, refl, sym, ap, ◌∙◌, subst, arith, mul-le-mul, pow-suc, pow-add, get_or-set_same, get_or-set_other}
+use Rattle.std.proofs.Common.{◌≡◌, ℕ, ◌+◌, ◌*◌, ◌^◌, ◌<◌, ◌≤◌, ◌⊎◌, inl, inr, List, length, set, sym, ap, ◌∙◌, subst, arith, pow-suc, pow-add, get_or-set_same, get_or-set_other}
 use Rattle.std.specs.Prelude.{slice_index}
-use Rattle.std.proofs.Math.Nat.{one-le-pow, pow-le-pow_right, pow-le-pow_left}
+use Rattle.std.proofs.Math.Nat.{pow-le-pow_right, pow-le-pow_left}
 use Rattle.std.proofs.lemmas.Bool.{cases_eq, cases_lt}
-use native.Mathlib.Nat.{le_of_eq, pow-zero}
+use native.Mathlib.Nat.{pow-zero}
 use Rattle.lab_defs_value.proofs.Bests.{one_pow}
 use Rattle.lab_regret.specs.Powers.{ArePowers}
 

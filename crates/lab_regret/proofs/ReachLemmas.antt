@@ -1,11 +1,11 @@
 -- The pass down: numbers of last decisions, and what stands at them, set by set.
-use Rattle.std.proofs.Common.{◌≡◌, ℕ, zero, suc, ◌+◌, ◌*◌, ◌%◌, ◌^◌, ◌<◌, ◌≤◌, ◌⊎◌, inl, inr, Bool, true, false, cond, List, [], ◌∷◌, ◌++◌, take, length, get_or, set, Option, Some, None, refl, sym, ap, ◌∙◌, subst, arith, pow-suc, pow-add, get_or-set_same, get_or-set_other}
+use Rattle.std.proofs.Common.{◌≡◌, ℕ, zero, suc, ◌+◌, ◌*◌, ◌%◌, ◌^◌, ◌<◌, ◌≤◌, ◌⊎◌, inl, inr, cond, List, [], ◌∷◌, ◌++◌, length, Option, Some, None, refl, sym, ap, ◌∙◌, subst, arith, pow-suc, pow-add}
 use Rattle.std.specs.Prelude.{slice_index, nat_le}
 use Rattle.std.specs.Option.{option_map}
-use Rattle.std.proofs.lemmas.Bool.{cases_eq, cases_lt, le-leb, lt-leb}
-use Rattle.std.proofs.lemmas.List.{get_or-map, get_or-take, length-map, length-take-le, take-map}
+use Rattle.std.proofs.lemmas.Bool.{cases_lt, le-leb, lt-leb}
+use Rattle.std.proofs.lemmas.List.{get_or-map}
 use native.Mathlib.Nat.{pow-zero}
-use Rattle.lab_math.specs.Sums.{sum_over, product_over}
+use Rattle.lab_math.specs.Sums.{product_over}
 use Rattle.lab_defs_game.specs.Paths.{SetAction}
 use Rattle.lab_defs_game.specs.Forms.{decides, deciding}
 use Rattle.lab_defs_game.specs.Forms as model
@@ -18,9 +18,9 @@ use Rattle.lab_form.specs.declared.items.FormSet.{FormSet}
 use Rattle.lab_form.specs.Forms.{IsStepBelow, AreSets, actions_in, weight_count, taken_model, sets_model, whole_path}
 use Rattle.lab_form.specs.Columns.{place_of_step}
 use Rattle.lab_form.specs.Decisions.{last_decision, short_decision, decisions_above}
-use Rattle.lab_form.proofs.CallerLemmas.{no_decision, decided, passed, decision_fits, short_exact, chain_step, model_length, model_parent, parents_below, step_there}
+use Rattle.lab_form.proofs.CallerLemmas.{no_decision, decided, passed, short_exact, chain_step, model_length, model_parent, parents_below, step_there}
 use Rattle.lab_table.proofs.CallerLemmas.{all_is, first_le, end_is, first_is, actions_is, actions_length, deciding_weights}
-use Rattle.lab_regret.specs.Reached.{weight_to, power_to, AreAt, set_at, HasSmallWays}
+use Rattle.lab_regret.specs.Reached.{weight_to, power_to, AreAt, set_at}
 
 -- what reads as a set past the last one
 abbrev pub no_set : FormSet

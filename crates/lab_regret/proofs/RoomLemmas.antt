@@ -1,5 +1,5 @@
 -- Room for what is kept, and what is kept of the sets of a form.
-use Rattle.std.proofs.Common.{◌≡◌, ℕ, zero, suc, ◌+◌, ◌^◌, ◌<◌, ◌≤◌, ℤ, pos, List, [], ◌∷◌, map, replicate, length, get_or, refl, sym, ap, ◌∙◌, subst, arith}
+use Rattle.std.proofs.Common.{◌≡◌, ℕ, zero, suc, ◌^◌, ◌<◌, ◌≤◌, ℤ, pos, List, ◌∷◌, replicate, length, get_or, refl, sym, ap, ◌∙◌, subst, arith}
 use Rattle.std.specs.Prelude.{slice_index, unsigned_abs}
 use Rattle.std.specs.List.{All}
 use Rattle.std.proofs.lemmas.List.{get_or-map, length-map}
@@ -13,7 +13,7 @@ use Rattle.lab_regret.specs.declared.room.Places.{Places}
 use Rattle.lab_regret.specs.Kept.{RegretsValue, numbers}
 use Rattle.lab_regret.specs.Played.{AreColumns, KeepsRoom}
 use Rattle.lab_regret.specs.Room.{HasRoom, HasPlaces, AreZero, AreKept, firsts_of}
-use Rattle.lab_regret.proofs.PlaceLemmas.{no_worth, number_at}
+use Rattle.lab_regret.proofs.PlaceLemmas.{no_worth}
 use Rattle.lab_regret.proofs.ReachLemmas.{no_set}
 
 -- worths of zero as numbers

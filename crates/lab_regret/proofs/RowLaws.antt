@@ -1,26 +1,24 @@
 -- What rows back up, set by set, and the values of actions and sets that come of it.
-use Rattle.std.proofs.Common.{◌≡◌, ℕ, zero, suc, ◌+◌, ◌*◌, ◌^◌, ◌<◌, ◌≤◌, ◌⊎◌, inl, inr, ℤ, pos, ◌+ℤ◌, ◌*ℤ◌, Bool, true, false, cond, eqb, ◌||◌, List, [], ◌∷◌, ◌++◌, Option, Some, None, length, drop, refl, sym, ap, ◌∙◌, subst, arith, eqb-true, eq-eqb, pow-suc, pow-add}
-use Rattle.std.specs.Prelude.{slice_index, nat_lt, nat_le}
-use Rattle.std.specs.List.{All, filter}
+use Rattle.std.proofs.Common.{◌≡◌, ℕ, ◌+◌, ◌*◌, ◌^◌, ◌<◌, ◌≤◌, ◌⊎◌, inl, inr, ℤ, pos, ◌+ℤ◌, ◌*ℤ◌, Bool, true, false, cond, eqb, ◌||◌, List, [], ◌∷◌, None, refl, sym, ap, ◌∙◌, arith, eq-eqb, pow-suc, pow-add}
+use Rattle.std.specs.Prelude.{slice_index}
+use Rattle.std.specs.List.{All}
 use Rattle.std.proofs.Math.Nat.{one-le-pow}
 use Rattle.std.proofs.lemmas.Int.{ints}
-use Rattle.std.proofs.lemmas.Bool.{cases_eq, lt-ltb, le-ltb, le-leb, lt-leb}
+use Rattle.std.proofs.lemmas.Bool.{cases_eq}
 use native.Mathlib.Nat.{pow-zero}
-use Rattle.lab_math.specs.Sums.{total, product_over}
-use Rattle.lab_math.specs.Below.{total_below}
 use Rattle.lab_math.proofs.Integers.{mul_assoc_z, mul_left_comm_z, pos-mul, cancel_le_z, le_antisym_z, le_of_eq_z}
 use Rattle.lab_math.proofs.BelowLemmas.{eqb_apart, total_below_cong, total_below_mul}
 use Rattle.lab_math.proofs.Totals.{total_cong, total_cong_all, total_filter, weighed, weighed_scale, weighed_add, weighed_cond}
 use Rattle.lab_defs_game.specs.Paths.{SetAction}
-use Rattle.lab_defs_game.specs.Forms.{Row, actions_of, sets_of, path_of, pad_of, decides, deciding, parent_of, chain}
+use Rattle.lab_defs_game.specs.Forms.{Row, sets_of, path_of, pad_of, decides, deciding, parent_of, chain}
 use Rattle.lab_defs_value.specs.Tables.{first_weight, factor}
 use Rattle.lab_defs_value.specs.Parents.{IsForm, passes_through, path_from}
 use Rattle.lab_defs_value.specs.Matching.{Pair, pair_grid, pair_actions, pair_table, pair_weight, weight_along, pair_worth, path_before, path_after, takes, grid_before, action_value, set_value}
 use Rattle.lab_defs_value.proofs.Chains.{IsPath, paths_follow, chain_law}
 use Rattle.lab_defs_value.proofs.RegretSums.{set_share, action_share, value_law, actions_law}
 use Rattle.lab_form.specs.Decisions.{last_deciding, weight_number}
-use Rattle.lab_regret.specs.Backed.{steps_below, steps_from, decision_below, weight_from, backed, backed_by}
-use Rattle.lab_regret.proofs.PathSteps.{IsSplit, split_at, IsPast, past, deciding_push, decision_low}
+use Rattle.lab_regret.specs.Backed.{steps_from, decision_below, weight_from, backed, backed_by}
+use Rattle.lab_regret.proofs.PathSteps.{IsSplit, split_at, past, deciding_push, decision_low}
 
 -- ---- one row
 
@@ -110,7 +108,7 @@ module _ (p : Pair) (seat I : ℕ) (path : List SetAction) (ok : IsRowPath p sea
           let second : cond (eqb (decision_to p seat I) k) (cond (passes_through I path) (x * weight_along p seat (path_from I path)) 0) 0 ≡ 0 =
           ap (λ b. cond (eqb (decision_to p seat I) k) (cond b (x * weight_along p seat (path_from I path)) 0) 0) off ∙ zero_either (eqb (decision_to p seat I) k) 0 refl in
           let first : cond (eqb (decision_below (pair_actions p seat) (I + 1) path) k) (x * weight_along p seat (steps_from (I + 1) path)) 0
-              ≡ cond (eqb (decision_below (pair_actions p seat) I path) k) (x * weight_along p seat (steps_from I path)) 0 =
+          ≡ cond (eqb (decision_below (pair_actions p seat) I path) k) (x * weight_along p seat (steps_from I path)) 0 =
           ap (λ us. cond (eqb (weight_number (pair_actions p seat) (last_deciding (pair_actions p seat) us)) k) (x * weight_along p seat (steps_from (I + 1) path)) 0) r.below
           ∙ ap (λ us. cond (eqb (decision_below (pair_actions p seat) I path) k) (x * weight_along p seat us) 0) r.from in
           omega (arith, first, second)

@@ -1,21 +1,19 @@
 -- The pass over the rows: what one row adds.
-use Rattle.std.proofs.Common.{◌≡◌, ℕ, zero, suc, ◌+◌, ◌*◌, ◌^◌, ◌<◌, ◌≤◌, ℤ, pos, ◌+ℤ◌, ◌*ℤ◌, cond, eqb, max, Bool, true, false, List, [], ◌∷◌, ◌++◌, map, replicate, take, length, get_or, Option, Some, None, refl, sym, ap, ◌∙◌, subst, arith, mul-le-mul}
+use Rattle.std.proofs.Common.{◌≡◌, ℕ, zero, suc, ◌+◌, ◌*◌, ◌^◌, ◌<◌, ◌≤◌, ℤ, pos, ◌+ℤ◌, ◌*ℤ◌, cond, eqb, max, Bool, true, false, List, [], ◌∷◌, replicate, take, length, get_or, refl, sym, ap, ◌∙◌, subst, arith, mul-le-mul}
 use Rattle.std.specs.Prelude.{neg_ℤ, slice_index, unsigned_abs}
 use Rattle.std.proofs.Math.Nat.{one-le-pow}
 use Rattle.std.proofs.lemmas.Int.{ints, unsigned_abs-mul}
 use Rattle.std.proofs.lemmas.List.{get_or-map, take_more}
-use Rattle.std.specs.List.{All}
 use native.Mathlib.Nat.{le_of_eq}
 use Rattle.lab_math.specs.Sums.{total}
 use Rattle.lab_math.proofs.IntegerSums.{total-append}
 use Rattle.lab_math.proofs.Ring.{neg-*ℤ}
 use Rattle.lab_math.proofs.Integers.{mul_assoc_z, pos-mul}
 use Rattle.lab_defs_value.specs.Bounds.{at}
-use Rattle.lab_form.specs.declared.items.SetId.{SetId}
 use Rattle.lab_form.specs.declared.items.FormSet.{FormSet}
 use Rattle.lab_form.specs.declared.items.FormRow.{FormRow}
 use Rattle.lab_units.specs.declared.worth.Worth.{Worth}
-use Rattle.lab_form.specs.Forms.{AreSets, AreRows, IsStepBelow, last_of, weight_count}
+use Rattle.lab_form.specs.Forms.{AreSets, AreRows, last_of, weight_count}
 use Rattle.lab_form.specs.Decisions.{last_decision, row_decisions}
 use Rattle.lab_form.proofs.CallerLemmas.{decision_fits, rows_exact}
 use Rattle.lab_regret.specs.Kept.{numbers}

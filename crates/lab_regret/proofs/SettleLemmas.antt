@@ -1,11 +1,10 @@
 -- The pass up: a set of a form, as the definitions have it, and what settling it makes of the values and regrets.
-use Rattle.std.proofs.Common.{◌≡◌, ℕ, zero, suc, ◌+◌, ◌-◌, ◌*◌, ◌^◌, ◌<◌, ◌≤◌, ◌⊎◌, inl, inr, ℤ, pos, ◌+ℤ◌, ◌*ℤ◌, Bool, true, false, cond, eqb, List, length, get_or, Option, Some, None, refl, sym, ap, ◌∙◌, subst, arith, mul-le-mul, pow-suc, pow-add}
-use Rattle.std.specs.Prelude.{◌-ℤ◌, slice_index, unsigned_abs, nat_le}
+use Rattle.std.proofs.Common.{◌≡◌, ℕ, ◌+◌, ◌*◌, ◌^◌, ◌<◌, ◌≤◌, inl, inr, ℤ, pos, ◌*ℤ◌, true, List, length, Some, refl, sym, ap, ◌∙◌, subst, arith, mul-le-mul, pow-suc, pow-add}
+use Rattle.std.specs.Prelude.{slice_index, unsigned_abs, nat_le}
 use Rattle.std.specs.List.{All}
-use Rattle.std.specs.Option.{option_map}
 use Rattle.std.proofs.Math.Nat.{one-le-pow}
-use Rattle.std.proofs.lemmas.Int.{ints, unsigned_abs-mul}
-use Rattle.std.proofs.lemmas.Bool.{cases_lt, le-leb, lt-leb}
+use Rattle.std.proofs.lemmas.Int.{unsigned_abs-mul}
+use Rattle.std.proofs.lemmas.Bool.{le-leb}
 use native.Mathlib.Nat.{le_of_eq, pow-zero}
 use Rattle.lab_math.specs.Below.{total_below}
 use Rattle.lab_math.proofs.Integers.{mul_comm_z}
@@ -14,24 +13,23 @@ use Rattle.lab_defs_game.specs.Seats.{IsSeat}
 use Rattle.lab_defs_game.specs.Forms.{decides, deciding}
 use Rattle.lab_defs_game.specs.Forms as model
 use Rattle.lab_defs_value.specs.Bounds.{at}
-use Rattle.lab_defs_value.specs.Smallness.{IsSmall, HasReach}
+use Rattle.lab_defs_value.specs.Smallness.{HasReach}
 use Rattle.lab_defs_value.specs.Parents.{IsForm}
 use Rattle.lab_defs_value.specs.Tables.{weights_of, first_weight}
 use Rattle.lab_defs_value.specs.Matching.{Pair, pair_grid, pair_actions, pair_table, pair_weight, action_value, set_value}
 use Rattle.lab_sizes.specs.Sizes.{IsSmallPair}
 use Rattle.lab_sizes.proofs.SizeSums.{sum_law}
 use Rattle.lab_form.specs.declared.items.SetId.{SetId}
-use Rattle.lab_form.specs.declared.items.FormSet.{FormSet}
-use Rattle.lab_form.specs.Forms.{FormValue, sets_of, AreSets, actions_in, weight_count, taken_model, sets_model, form_model}
+use Rattle.lab_form.specs.Forms.{FormValue, sets_of, actions_in, weight_count, sets_model, form_model}
 use Rattle.lab_form.specs.Decisions.{last_deciding, weight_number, last_decision, decisions_above}
 use Rattle.lab_form.proofs.CallerLemmas.{form_sets, form_actions, model_actions, model_length, model_parent}
 use Rattle.lab_table.proofs.CallerLemmas.{end_is, first_is, actions_is, actions_length, deciding_weights}
 use Rattle.lab_regret.specs.Kept.{pair_in}
 use Rattle.lab_regret.specs.Backed.{backed, backed_by}
 use Rattle.lab_regret.specs.Reached.{power_to, AreAt, set_at}
-use Rattle.lab_regret.specs.Settled.{weighed_values, AreSmallAt, HasRegrets}
-use Rattle.lab_regret.proofs.ReachLemmas.{no_set, AreFew, step_at, decision_is, power_step, above_is, above_low, set_within, some_weights}
-use Rattle.lab_regret.proofs.RowLaws.{decision_to, decisions_before, action_is, set_backs, backed_past, backed_next}
+use Rattle.lab_regret.specs.Settled.{weighed_values, AreSmallAt}
+use Rattle.lab_regret.proofs.ReachLemmas.{no_set, AreFew, step_at, decision_is, power_step, above_is, set_within}
+use Rattle.lab_regret.proofs.RowLaws.{decision_to, decisions_before, action_is, set_backs}
 
 -- a seat of a small pair
 pub seat_form : (p : Pair) (seat : ℕ) → IsSeat seat → IsSmallPair p → IsForm p.form seat

@@ -1,6 +1,6 @@
 -- The pass up, set by set.
-use Rattle.std.proofs.Common.{◌≡◌, ℕ, zero, suc, ◌+◌, ◌*◌, ◌^◌, ◌<◌, ◌≤◌, ◌⊎◌, inl, inr, ℤ, pos, ◌+ℤ◌, ◌*ℤ◌, Bool, cond, eqb, List, length, true, false, refl, sym, ap, ◌∙◌, subst, arith}
-use Rattle.std.specs.Prelude.{◌-ℤ◌, slice_index, unsigned_abs, nat_le}
+use Rattle.std.proofs.Common.{◌≡◌, ℕ, ◌+◌, ◌*◌, ◌^◌, ◌<◌, ◌≤◌, ◌⊎◌, inl, inr, ℤ, pos, ◌+ℤ◌, ◌*ℤ◌, Bool, cond, eqb, List, length, true, false, refl, sym, ap, ◌∙◌, arith}
+use Rattle.std.specs.Prelude.{◌-ℤ◌, slice_index, unsigned_abs}
 use Rattle.std.proofs.lemmas.Int.{ints}
 use Rattle.std.proofs.lemmas.Bool.{cases_eq, cases_lt, le-leb, lt-leb}
 use Rattle.lab_defs_game.specs.Seats.{IsSeat}
@@ -19,8 +19,8 @@ use Rattle.lab_regret.specs.Backed.{backed, backed_by}
 use Rattle.lab_regret.specs.Reached.{power_to, AreAt, set_at}
 use Rattle.lab_regret.specs.Settled.{weighed_values}
 use Rattle.lab_regret.proofs.ReachLemmas.{AreFew}
-use Rattle.lab_regret.proofs.RowLaws.{decision_to, backed_past, backed_next}
-use Rattle.lab_regret.proofs.SettleLemmas.{seat_form, seat_least, set_first, set_next, set_actions, set_decides, above_same, set_weighed, action_here, set_here, set_size, value_here}
+use Rattle.lab_regret.proofs.RowLaws.{backed_past, backed_next}
+use Rattle.lab_regret.proofs.SettleLemmas.{seat_form, seat_least, set_first, set_next, set_actions, set_decides, above_same, set_weighed, action_here, set_here, set_size}
 
 -- the sets from one on are settled: the values before it have what they back up, and their regrets what their actions are worth more than they are
 pub record IsSettledTo (p : Pair) (seat i : ℕ) (values old new : List ℤ) : Type 0 where

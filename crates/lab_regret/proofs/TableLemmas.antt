@@ -1,9 +1,9 @@
 -- Shares rounded set by set.
-use Rattle.std.proofs.Common.{◌≡◌, ℕ, zero, suc, ◌+◌, ◌-◌, ◌*◌, ◌^◌, ◌<◌, ◌≤◌, List, [], ◌∷◌, ◌++◌, take, drop, map, length, get_or, refl, sym, ap, ◌∙◌, subst, arith, append_assoc, append-nil, Bool, true, false, cond}
-use Rattle.std.specs.Prelude.{ℤ, unsigned_abs, nat_le}
+use Rattle.std.proofs.Common.{◌≡◌, ℕ, ◌+◌, ◌^◌, ◌<◌, ◌≤◌, List, [], ◌++◌, take, drop, length, get_or, sym, ap, ◌∙◌, subst, arith, append_assoc, append-nil, Bool, true, false, cond}
+use Rattle.std.specs.Prelude.{unsigned_abs, nat_le}
 use Rattle.std.specs.List.{All}
 use Rattle.std.proofs.Math.Seq.{take-append_seam}
-use Rattle.std.proofs.lemmas.List.{drop-drop, drop_all, take_all, length-append, length-take-le, length-take, length-drop, length-map, take-map, drop-map, drop_more, get_or-drop, get_or-take, get_or-map, take-append-drop}
+use Rattle.std.proofs.lemmas.List.{drop-drop, drop_all, take_all, length-append, length-take-le, length-drop, length-map, take-map, drop-map, drop_more, get_or-drop, get_or-take, get_or-map}
 use Rattle.lab_math.specs.Sums.{sum_over}
 use Rattle.lab_math.proofs.NaturalSums.{sum_over-map}
 use Rattle.lab_units.specs.declared.worth.Worth.{Worth}

@@ -1,14 +1,12 @@
 -- The ways to sets are small: what the pass down multiplies fits.
-use Rattle.std.proofs.Common.{◌≡◌, ℕ, suc, ◌+◌, ◌*◌, ◌^◌, ◌<◌, ◌≤◌, cond, true, List, length, get_or, Some, sym, ap, ◌∙◌, subst, arith}
+use Rattle.std.proofs.Common.{◌≡◌, ℕ, ◌+◌, ◌*◌, ◌^◌, ◌<◌, ◌≤◌, List, length, Some, sym, ap, ◌∙◌, subst, arith}
 use Rattle.std.specs.Prelude.{slice_index, nat_le}
 use Rattle.std.proofs.lemmas.Bool.{le-leb}
-use Rattle.lab_defs_game.specs.Paths.{SetAction}
 use Rattle.lab_defs_game.specs.Forms.{decides, deciding}
 use Rattle.lab_defs_game.specs.Forms as model
-use Rattle.lab_defs_value.specs.Tables.{weights_of, first_weight}
-use Rattle.lab_form.specs.declared.items.SetId.{SetId}
+use Rattle.lab_defs_value.specs.Tables.{weights_of}
 use Rattle.lab_form.specs.declared.items.FormSet.{FormSet}
-use Rattle.lab_form.specs.Forms.{actions_in, sets_model, whole_path}
+use Rattle.lab_form.specs.Forms.{sets_model}
 use Rattle.lab_form.proofs.CallerLemmas.{model_length, model_actions}
 use Rattle.lab_table.proofs.CallerLemmas.{first_is, actions_is, deciding_weights}
 use Rattle.lab_regret.specs.Reached.{weight_to, power_to, set_at, HasSmallWays}

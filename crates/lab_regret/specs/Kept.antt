@@ -4,7 +4,6 @@ use Rattle.lab_units.specs.declared.worth.Worth.{Worth}
 use Rattle.lab_defs_game.specs.Forms.{Form, actions_of}
 use Rattle.lab_defs_value.specs.Matching.{Pair, Regrets, regrets_after}
 use Rattle.lab_form.specs.Forms.{FormValue, form_model, weight_count}
-use Rattle.lab_form.specs.Forms as own
 
 -- how many actions each seat has at its sets, the regrets and the sums after some rounds, the grids, and for how many sets of a seat, rows and weights of a seat there is room
 pub record RegretsValue : Type 0 where

@@ -1,5 +1,5 @@
 -- One round, on what is kept of the seats.
-use Rattle.std.specs.Prelude.{ℕ, ◌≡◌, ◌+◌, ◌*◌, ◌^◌, ◌<◌, ◌≤◌, ℤ, List, length, All, unsigned_abs, pos, ◌+ℤ◌, slice_index, vec_capacity}
+use Rattle.std.specs.Prelude.{ℕ, ◌≡◌, ◌+◌, ◌^◌, ◌<◌, ◌≤◌, ℤ, List, length, All, unsigned_abs, pos, ◌+ℤ◌, slice_index, vec_capacity}
 use Rattle.lab_defs_value.specs.Matching.{Regrets, regrets_of, sums_of, rounded_table}
 use Rattle.lab_form.specs.declared.items.FormSet.{FormSet}
 use Rattle.lab_form.specs.Forms.{FormValue, AreSets, actions_in, weight_count}

@@ -1,5 +1,5 @@
 -- The pass down: for each decision the weights on the way to it, and the power of the grid.
-use Rattle.std.specs.Prelude.{ℕ, ◌≡◌, ◌+◌, ◌*◌, ◌^◌, ◌<◌, ◌≤◌, ◌==◌, ℤ, pos, ◌*ℤ◌, List, [], length, max, unsigned_abs, Option, None, true, if◌then◌else◌, slice_index, slice_index_or, All}
+use Rattle.std.specs.Prelude.{ℕ, ◌≡◌, ◌+◌, ◌*◌, ◌^◌, ◌<◌, ◌≤◌, ◌==◌, ℤ, pos, ◌*ℤ◌, List, length, max, unsigned_abs, Option, None, true, if◌then◌else◌, slice_index, slice_index_or, All}
 use Rattle.lab_math.specs.Sums.{product_over}
 use Rattle.lab_defs_game.specs.Seats.{other}
 use Rattle.lab_defs_game.specs.Forms.{decides, deciding}
@@ -9,7 +9,7 @@ use Rattle.lab_defs_value.specs.Replies.{worth_to}
 use Rattle.lab_form.specs.declared.items.SetId.{SetId}
 use Rattle.lab_form.specs.declared.items.FormSet.{FormSet}
 use Rattle.lab_form.specs.declared.items.FormRow.{FormRow}
-use Rattle.lab_form.specs.Forms.{IsStepBelow, AreSets, AreRows, actions_in, sets_model, whole_path, last_of, weight_count}
+use Rattle.lab_form.specs.Forms.{IsStepBelow, actions_in, sets_model, whole_path, last_of}
 use Rattle.lab_form.specs.Columns.{place_of_step}
 use Rattle.lab_form.specs.Decisions.{last_decision}
 

@@ -59,13 +59,7 @@ pub fn play(form: &Form, grids: [u32; 2], rounds: u32, one: &mut Columns, two: &
 }
 
 // The passes over the rows and up, by the tables and the reach of both seats.
-fn finish(
-    form: &Form,
-    rows: &[FormRow],
-    grids: [u32; 2],
-    one: &mut Columns,
-    two: &mut Columns,
-)
+fn finish(form: &Form, rows: &[FormRow], grids: [u32; 2], one: &mut Columns, two: &mut Columns)
     requires rows { rows.now ≡ form.now.rows }
     requires there { AreRows form.now.sets1 form.now.sets2 rows.now }
     requires down { IsDown form.now (slice_index grids 0) (slice_index grids 1) one.old two.old }
@@ -122,7 +116,12 @@ fn begin(sets: &[FormSet], above: &[u32], d: u32, columns: &mut Columns)
     ensures down { HasDown d sets.now columns.old columns.new }
     ensures room { KeepsRoom columns.old columns.new }
 {
-    write_table(sets, d, columns.regrets.as_slice(), columns.weights.as_mut_slice());
+    write_table(
+        sets,
+        d,
+        columns.regrets.as_slice(),
+        columns.weights.as_mut_slice(),
+    );
     write_reach(
         sets,
         above,

@@ -26,7 +26,11 @@ fn times(power: u128, d: u32) -> u128
     requires { d ≤ 4096 }
     ensures { power ≤ 2 ^ 77 → result ≡ power * d }
 {
-    if power <= LIMIT { power * d as u128 } else { power }
+    if power <= LIMIT {
+        power * d as u128
+    } else {
+        power
+    }
 }
 
 /// The power of a grid with an exponent, where it is at most 2^77; only the grid 1 has such powers past the last one.

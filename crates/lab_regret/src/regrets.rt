@@ -11,7 +11,9 @@ ghost use Rattle.lab_form.specs.Forms.{sets_of, form_model, weight_count};
 ghost use Rattle.lab_regret.specs.Kept.{no_regrets, regrets_on, kept_actions, FitsRoom, AreRegretsOf, numbers};
 
 use super::play::{Columns, play};
-use super::room::{Places, clear_columns, columns_with_room, count_weights, places_with_room, write_places};
+use super::room::{
+    Places, clear_columns, columns_with_room, count_weights, places_with_room, write_places,
+};
 use super::tables::write_table;
 use lab_form::{Form, SetId};
 use lab_units::Worth;

@@ -51,7 +51,15 @@ pub fn settle(
         i -= 1;
         let first = sets[i].first_weight as usize;
         let count = weights_of(sets[i].actions);
-        settle_set(first, count, above[i] as usize, weights, powers, values, regrets);
+        settle_set(
+            first,
+            count,
+            above[i] as usize,
+            weights,
+            powers,
+            values,
+            regrets,
+        );
     }
 }
 

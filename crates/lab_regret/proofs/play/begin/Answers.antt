@@ -7,7 +7,6 @@ use Rattle.lab_defs_value.specs.Matching.{rounded_table}
 use Rattle.lab_form.specs.Forms.{actions_in, weight_count}
 use Rattle.lab_regret.specs.Kept.{numbers}
 use Rattle.lab_regret.specs.Reached.{weight_to, AreAt, HasSmallWays}
-use Rattle.lab_regret.proofs.ReachLemmas.{AreFew}
 use Rattle.lab_regret.proofs.DecisionLemmas.{worths_small}
 use Rattle.lab_regret.proofs.KeptLemmas.{reach_small}
 use Rattle.lab_regret.proofs.play.begin.Goals as goal

@@ -4,7 +4,6 @@ use Rattle.std.proofs.lemmas.Grind.{common_steps}
 use Rattle.lab_math.specs.Sums.{total}
 use Rattle.lab_units.specs.declared.worth.Worth.{Worth}
 use Rattle.lab_defs_value.specs.Bounds.{at}
-use Rattle.lab_form.specs.declared.items.FormRow.{FormRow}
 use Rattle.lab_form.specs.Forms.{AreRows}
 use Rattle.lab_regret.specs.Kept.{numbers, pair_in}
 use Rattle.lab_regret.specs.Backed.{backed}

@@ -1,4 +1,4 @@
-use Rattle.std.proofs.Common.{◌≡◌, ℕ, suc, ◌+◌, ◌^◌, ◌<◌, ◌≤◌, ℤ, pos, ◌+ℤ◌, List, length, inl, inr, refl, sym, ap, ◌∙◌, subst, arith, add-one}
+use Rattle.std.proofs.Common.{◌≡◌, ℕ, suc, ◌+◌, ◌^◌, ◌≤◌, ℤ, pos, ◌+ℤ◌, List, length, inl, inr, refl, sym, ap, ◌∙◌, subst, arith, add-one}
 use Rattle.std.specs.Prelude.{slice_index, unsigned_abs}
 use Rattle.std.specs.List.{All}
 use Rattle.std.proofs.lemmas.List.{length-map}
@@ -14,7 +14,7 @@ use Rattle.lab_table.proofs.CallerLemmas.{all_is}
 use Rattle.lab_regret.specs.Kept.{numbers, pair_in}
 use Rattle.lab_regret.specs.Reached.{weight_to, AreAt}
 use Rattle.lab_regret.specs.Settled.{HasRegrets}
-use Rattle.lab_regret.specs.Played.{Holds, IsBegun, HasDown, IsDown}
+use Rattle.lab_regret.specs.Played.{Holds, IsBegun, HasDown}
 use Rattle.lab_regret.proofs.ReachLemmas.{AreFew}
 use Rattle.lab_regret.proofs.DecisionLemmas.{numbers_small, worths_small}
 use Rattle.lab_sizes.proofs.SizeRegrets.{regret_size_law}

@@ -1,6 +1,5 @@
-use Rattle.std.proofs.Common.{◌≡◌, ◌+◌, ◌^◌, ◌<◌, ◌∙◌, arith}
+use Rattle.std.proofs.Common.{◌∙◌, arith}
 use Rattle.std.proofs.lemmas.List.{length-set}
-use native.Mathlib.Nat.{pow-zero}
 use Rattle.lab_regret.proofs.PowerLemmas.{next_power, power_written}
 use Rattle.lab_regret.proofs.powers.powers.Goals as goal
 

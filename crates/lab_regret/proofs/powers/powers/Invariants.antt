@@ -1,4 +1,4 @@
-use Rattle.std.proofs.Common.{ℕ, ◌≡◌, ◌<◌, ◌≤◌, ◌*◌, ◌^◌, slice_index, length}
+use Rattle.std.proofs.Common.{ℕ, ◌≡◌, ◌<◌, ◌≤◌, ◌^◌, slice_index, length}
 use Rattle.lab_regret.proofs.powers.powers.Given as goal
 
 abbrev pub invariant-loop-k : goal.invariant-loop-k

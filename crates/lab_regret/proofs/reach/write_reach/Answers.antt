@@ -1,14 +1,10 @@
-use Rattle.std.proofs.Common.{◌≡◌, ℕ, ◌+◌, ◌*◌, ◌^◌, ◌<◌, ◌≤◌, length, get_or, set, sym, ap, ◌∙◌, subst, arith, get_or-set_same, cond}
-use Rattle.std.specs.Prelude.{slice_index, nat_le}
-use Rattle.std.proofs.lemmas.Bool.{le-leb}
+use Rattle.std.proofs.Common.{◌≡◌, ◌+◌, ◌*◌, ◌<◌, ◌≤◌, get_or, set, sym, ap, ◌∙◌, subst, arith, get_or-set_same}
+use Rattle.std.specs.Prelude.{slice_index}
 use Rattle.std.proofs.lemmas.List.{length-set}
-use Rattle.lab_defs_game.specs.Forms.{decides}
-use Rattle.lab_defs_value.specs.Tables.{weights_of, first_weight}
-use Rattle.lab_form.specs.Forms.{IsStepBelow, actions_in}
-use Rattle.lab_form.specs.Decisions.{last_decision}
-use Rattle.lab_table.proofs.CallerLemmas.{first_is, actions_is, deciding_weights}
-use Rattle.lab_regret.specs.Reached.{weight_to, power_to, AreAt, set_at}
-use Rattle.lab_regret.proofs.ReachLemmas.{no_set, AreFew, weight_none, power_none, at_first, at_next, above_is, above_low, set_within, some_weights, weight_step, weight_past, power_step, power_past}
+use Rattle.lab_form.specs.Forms.{actions_in}
+use Rattle.lab_table.proofs.CallerLemmas.{actions_is, deciding_weights}
+use Rattle.lab_regret.specs.Reached.{weight_to, power_to, set_at}
+use Rattle.lab_regret.proofs.ReachLemmas.{no_set, AreFew, weight_none, power_none, at_first, at_next, above_is, above_low, set_within, weight_step, weight_past, power_step, power_past}
 use Rattle.lab_regret.proofs.WayLemmas.{small_reach, small_power}
 use Rattle.lab_regret.proofs.reach.write_reach.Goals as goal
 

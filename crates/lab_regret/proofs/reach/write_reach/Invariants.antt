@@ -1,4 +1,4 @@
-use Rattle.std.proofs.Common.{ℕ, ◌≡◌, length}
+use Rattle.std.proofs.Common.{◌≡◌, length}
 use Rattle.lab_regret.specs.Reached.{weight_to, power_to, AreAt}
 use Rattle.lab_regret.proofs.reach.write_reach.Given as goal
 

@@ -1,4 +1,4 @@
-use Rattle.std.proofs.Common.{◌≡◌, ◌+ℤ◌, get_or, ap, ◌∙◌}
+use Rattle.std.proofs.Common.{◌+ℤ◌, get_or, ap, ◌∙◌}
 use Rattle.lab_regret.proofs.PlaceLemmas.{no_worth, added_at}
 use Rattle.lab_regret.proofs.rows.add_at.Goals as goal
 

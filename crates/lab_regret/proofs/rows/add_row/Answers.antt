@@ -1,5 +1,5 @@
-use Rattle.std.proofs.Common.{◌≡◌, ℕ, ◌+◌, ◌*◌, ◌^◌, ◌≤◌, ℤ, pos, ◌+ℤ◌, ◌*ℤ◌, cond, eqb, sym, ap, ◌∙◌, subst, arith}
-use Rattle.std.specs.Prelude.{slice_index, unsigned_abs, neg_ℤ}
+use Rattle.std.proofs.Common.{◌*◌, ◌^◌, ◌≤◌, pos, ◌+ℤ◌, ◌*ℤ◌, cond, eqb, sym, ap, ◌∙◌, subst}
+use Rattle.std.specs.Prelude.{slice_index, neg_ℤ}
 use Rattle.lab_defs_value.specs.Bounds.{at}
 use Rattle.lab_regret.specs.Kept.{numbers}
 use Rattle.lab_regret.specs.Reached.{pads_of}

@@ -1,5 +1,4 @@
-use Rattle.std.proofs.Common.{◌≡◌, pos, ◌+ℤ◌, ◌-ℤ◌, ◌*ℤ◌, get_or, sym, ap, ◌∙◌}
-use Rattle.std.specs.Prelude.{neg_ℤ}
+use Rattle.std.proofs.Common.{pos, ◌+ℤ◌, ◌-ℤ◌, get_or, sym, ap, ◌∙◌}
 use Rattle.lab_math.proofs.Ring.{neg-*ℤ}
 use Rattle.lab_regret.proofs.PlaceLemmas.{no_worth, added_at}
 use Rattle.lab_regret.proofs.rows.take_at.Goals as goal

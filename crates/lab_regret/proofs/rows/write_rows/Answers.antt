@@ -1,4 +1,4 @@
-use Rattle.std.proofs.Common.{◌≡◌, ℕ, ◌+◌, ◌*◌, ◌^◌, ◌<◌, ◌≤◌, ℤ, pos, ◌+ℤ◌, ◌*ℤ◌, cond, eqb, List, [], ◌∷◌, take, length, get_or, replicate, sym, ap, ◌∙◌, subst, arith}
+use Rattle.std.proofs.Common.{◌*◌, ◌^◌, ◌<◌, ◌≤◌, pos, ◌*ℤ◌, cond, eqb, List, [], length, get_or, ap, ◌∙◌, subst, arith}
 use Rattle.std.specs.Prelude.{slice_index, unsigned_abs, neg_ℤ}
 use Rattle.std.proofs.lemmas.List.{take_all, length-replicate}
 use Rattle.lab_math.specs.Sums.{total}
@@ -8,7 +8,7 @@ use Rattle.lab_form.specs.declared.items.FormRow.{FormRow}
 use Rattle.lab_regret.specs.Kept.{numbers}
 use Rattle.lab_regret.specs.Reached.{pads_of, row_part}
 use Rattle.lab_regret.proofs.PlaceLemmas.{no_worth}
-use Rattle.lab_regret.proofs.RowLemmas.{no_row, number_zero, row_at, IsRowAt, row_more, row_part_one, row_part_two}
+use Rattle.lab_regret.proofs.RowLemmas.{no_row, number_zero, row_at, row_more, row_part_one, row_part_two}
 use Rattle.lab_regret.proofs.rows.write_rows.Goals as goal
 
 pub loop-i-init : goal.loop-i-init

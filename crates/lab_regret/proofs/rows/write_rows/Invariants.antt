@@ -4,7 +4,6 @@ use Rattle.lab_math.specs.Sums.{total}
 use Rattle.lab_defs_value.specs.Bounds.{at}
 use Rattle.lab_regret.specs.Kept.{numbers}
 use Rattle.lab_regret.specs.Reached.{row_part}
-use Rattle.lab_regret.specs.Powers.{ArePowers}
 use Rattle.lab_regret.proofs.rows.write_rows.Given as goal
 
 abbrev pub invariant-loop-i : goal.invariant-loop-i

@@ -1,4 +1,4 @@
-use Rattle.std.proofs.Common.{◌≡◌, ◌+◌, ◌-◌, ◌≤◌, ◌^◌, take, drop, sym, subst, arith}
+use Rattle.std.proofs.Common.{◌≡◌, ◌+◌, ◌-◌, ◌≤◌, ◌^◌, take, drop, subst, arith}
 use Rattle.lab_math.specs.Sums.{sum_over}
 use Rattle.lab_table.specs.Sizes.{sizes}
 use Rattle.lab_regret.proofs.TableLemmas.{small_shares}

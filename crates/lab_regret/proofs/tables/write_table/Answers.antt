@@ -1,6 +1,4 @@
-use Rattle.std.proofs.Common.{◌≡◌, ℕ, ◌+◌, ◌<◌, ◌≤◌, ◌^◌, ◌++◌, length, take, drop, sym, ap, ◌∙◌, subst, arith}
-use Rattle.lab_defs_value.specs.Tables.{weights_of, first_weight}
-use Rattle.lab_form.specs.Forms.{actions_in}
+use Rattle.std.proofs.Common.{◌≤◌, ◌^◌, sym, ◌∙◌, subst, arith}
 use Rattle.lab_regret.proofs.TableLemmas.{few_weights, shares_within, table_next, table_done}
 use Rattle.lab_regret.proofs.tables.write_table.Goals as goal
 

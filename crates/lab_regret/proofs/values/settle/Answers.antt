@@ -1,16 +1,14 @@
-use Rattle.std.proofs.Common.{◌≡◌, ℕ, ◌+◌, ◌-◌, ◌*◌, ◌^◌, ◌<◌, ◌≤◌, ◌⊎◌, inl, inr, ℤ, pos, ◌+ℤ◌, cond, eqb, List, length, get_or, refl, sym, ap, ◌∙◌, subst, arith}
+use Rattle.std.proofs.Common.{◌≡◌, ℕ, ◌+◌, ◌-◌, ◌^◌, ◌<◌, ◌≤◌, inl, inr, List, length, get_or, refl, sym, ap, ◌∙◌, subst, arith}
 use Rattle.std.specs.Prelude.{slice_index, unsigned_abs}
 use Rattle.std.specs.List.{All}
-use Rattle.std.proofs.lemmas.Bool.{cases_lt, lt-leb}
-use Rattle.lab_defs_value.specs.Bounds.{at}
-use Rattle.lab_defs_value.specs.Tables.{weights_of, first_weight}
+use Rattle.std.proofs.lemmas.Bool.{cases_lt}
+use Rattle.lab_defs_value.specs.Tables.{weights_of}
 use Rattle.lab_form.specs.declared.items.FormSet.{FormSet}
 use Rattle.lab_form.specs.Forms.{sets_of, AreSets}
 use Rattle.lab_table.proofs.CallerLemmas.{deciding_weights}
 use Rattle.lab_regret.specs.Kept.{numbers, pair_in}
 use Rattle.lab_regret.specs.Reached.{set_at}
-use Rattle.lab_regret.specs.Settled.{weighed_values, AreSmallAt}
-use Rattle.lab_regret.proofs.PlaceLemmas.{nothing_added}
+use Rattle.lab_regret.specs.Settled.{AreSmallAt}
 use Rattle.lab_regret.proofs.ReachLemmas.{no_set, AreFew, above_low, set_within, some_weights}
 use Rattle.lab_regret.proofs.SettleLemmas.{small_here}
 use Rattle.lab_regret.proofs.SettleSteps.{IsSettledTo, IsSetSettled, settled_two, settled_start, value_within, no_weights}
@@ -128,11 +126,11 @@ loop-i-preserved c =
       regret_places = c.settle_set.ensures.regret_places ∙ c.loop-i.invariant.regret_places;
       settled = elim (cases_lt s.actions 2) [
         | inl few ↦
-              no_weights f g1 g2 c.args.one.now c.args.two.now seat J ok there c.requires.seat c.requires.small weights c.of_seat-weights.ensures powers c.requires.powers above c.decisions_above-above.ensures
-              (numbers c.loop-i.values) (numbers c.settle_set.new.values) (numbers c.args.regrets.now) (numbers c.loop-i.regrets) (numbers c.settle_set.new.regrets) was few made_here
+            no_weights f g1 g2 c.args.one.now c.args.two.now seat J ok there c.requires.seat c.requires.small weights c.of_seat-weights.ensures powers c.requires.powers above c.decisions_above-above.ensures
+            (numbers c.loop-i.values) (numbers c.settle_set.new.values) (numbers c.args.regrets.now) (numbers c.loop-i.regrets) (numbers c.settle_set.new.regrets) was few made_here
         | inr two ↦
-              settled_two f g1 g2 c.args.one.now c.args.two.now seat J ok there c.requires.seat c.requires.small weights c.of_seat-weights.ensures powers c.requires.powers above c.decisions_above-above.ensures
-              (numbers c.loop-i.values) (numbers c.settle_set.new.values) (numbers c.args.regrets.now) (numbers c.loop-i.regrets) (numbers c.settle_set.new.regrets) was two (subst (λ n. Made s.first_weight n) (deciding_weights s.actions two) made_here)
+            settled_two f g1 g2 c.args.one.now c.args.two.now seat J ok there c.requires.seat c.requires.small weights c.of_seat-weights.ensures powers c.requires.powers above c.decisions_above-above.ensures
+            (numbers c.loop-i.values) (numbers c.settle_set.new.values) (numbers c.args.regrets.now) (numbers c.loop-i.regrets) (numbers c.settle_set.new.regrets) was two (subst (λ n. Made s.first_weight n) (deciding_weights s.actions two) made_here)
       ];
     }
 

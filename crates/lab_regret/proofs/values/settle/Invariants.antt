@@ -1,12 +1,7 @@
-use Rattle.std.proofs.Common.{◌≡◌, ℕ, ◌+◌, ◌*◌, ◌^◌, ◌<◌, ◌≤◌, ◌+ℤ◌, length, true, unsigned_abs}
-use Rattle.std.specs.Prelude.{◌-ℤ◌, slice_index}
-use Rattle.lab_defs_game.specs.Forms.{decides}
-use Rattle.lab_defs_value.specs.Bounds.{at}
-use Rattle.lab_defs_value.specs.Tables.{first_weight}
-use Rattle.lab_defs_value.specs.Matching.{pair_actions, action_value, set_value}
-use Rattle.lab_form.specs.Forms.{sets_of, weight_count}
+use Rattle.std.proofs.Common.{◌≡◌, ◌≤◌, length}
+use Rattle.std.specs.Prelude.{slice_index}
+use Rattle.lab_form.specs.Forms.{sets_of}
 use Rattle.lab_regret.specs.Kept.{numbers, pair_in}
-use Rattle.lab_regret.specs.Backed.{backed}
 use Rattle.lab_regret.proofs.SettleSteps.{IsSettledTo}
 use Rattle.lab_regret.proofs.values.settle.Given as goal
 

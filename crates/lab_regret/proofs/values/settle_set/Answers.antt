@@ -1,8 +1,5 @@
-use Rattle.std.proofs.Common.{◌≡◌, ◌+◌, ◌<◌, pos, ◌+ℤ◌, cond, eqb, get_or, sym, ap, ◌∙◌, subst, arith, zero}
-use Rattle.lab_defs_value.specs.Bounds.{at}
-use Rattle.lab_regret.specs.Kept.{numbers}
-use Rattle.lab_regret.specs.Settled.{weighed_values}
-use Rattle.lab_regret.proofs.PlaceLemmas.{no_worth, added_at, nothing_added}
+use Rattle.std.proofs.Common.{◌+ℤ◌, get_or, ap, ◌∙◌, arith}
+use Rattle.lab_regret.proofs.PlaceLemmas.{no_worth, added_at}
 use Rattle.lab_regret.proofs.values.settle_set.Goals as goal
 
 pub returns-clause-values : goal.returns-clause-values

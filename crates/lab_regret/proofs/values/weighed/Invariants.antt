@@ -1,4 +1,4 @@
-use Rattle.std.proofs.Common.{ℕ, ◌≡◌, ◌+◌, ◌*◌, ◌^◌, ◌≤◌, unsigned_abs}
+use Rattle.std.proofs.Common.{◌≡◌, ◌*◌, ◌^◌, ◌≤◌, unsigned_abs}
 use Rattle.lab_regret.specs.Kept.{numbers}
 use Rattle.lab_regret.specs.Settled.{weighed_values}
 use Rattle.lab_regret.proofs.values.weighed.Given as goal

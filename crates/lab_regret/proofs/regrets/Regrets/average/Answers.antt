@@ -1,20 +1,16 @@
-use Rattle.std.proofs.Common.{◌≡◌, ℕ, ◌+◌, ◌^◌, ◌<◌, ◌≤◌, ◌⊎◌, inl, inr, ℤ, pos, List, length, replicate, true, sym, ap, ◌∙◌, subst, arith}
-use Rattle.std.specs.Prelude.{slice_index, unsigned_abs}
+use Rattle.std.proofs.Common.{◌≡◌, ℕ, ◌^◌, ◌≤◌, inl, inr, List, length, sym, ap, ◌∙◌, subst}
+use Rattle.std.specs.Prelude.{unsigned_abs}
 use Rattle.std.specs.List.{All}
 use Rattle.lab_units.specs.declared.worth.Worth.{Worth}
-use Rattle.lab_defs_game.specs.Forms.{decides, actions_of}
-use Rattle.lab_defs_value.specs.Bounds.{at}
+use Rattle.lab_defs_game.specs.Forms.{actions_of}
 use Rattle.lab_defs_value.specs.Candidates.{seat_table}
 use Rattle.lab_defs_value.specs.Tables.{first_weight}
-use Rattle.lab_defs_value.specs.Matching.{Regrets, regrets_of, rounded_table, averages}
+use Rattle.lab_defs_value.specs.Matching.{Regrets, rounded_table, averages}
 use Rattle.lab_form.specs.declared.items.FormSet.{FormSet}
 use Rattle.lab_form.specs.Forms.{sets_of, form_model, actions_in, weight_count}
 use Rattle.lab_form.proofs.CallerLemmas.{model_actions}
 use Rattle.lab_table.proofs.CallerLemmas.{all_is}
-use Rattle.lab_regret.specs.Kept.{RegretsValue, numbers, kept_actions}
-use Rattle.lab_regret.specs.Room.{AreZero, HasPlaces}
-use Rattle.lab_regret.proofs.KeptLemmas.{decision_within}
-use Rattle.lab_regret.proofs.RoomLemmas.{room_kept, kept_zero, same_kept}
+use Rattle.lab_regret.specs.Kept.{RegretsValue, numbers}
 use Rattle.lab_regret.proofs.regrets.Regrets.average.Goals as goal
 
 pub write_table-requires-clause-count : goal.write_table-requires-clause-count
@@ -76,7 +72,7 @@ write_table-requires-else-seat-eq1-clause-same c =
     let e : c.sets-else-seat-eq1.result.now ≡ f.sets2 = c.sets-else-seat-eq1.ensures.sets in
     let acts : s.places2.actions.items ≡ actions_in f.sets2 = ap (λ (v : RegretsValue). v.actions2) c.self.view_is ∙ c.requires.kept.actions2 ∙ model_actions f.sets2 in
     let count : length c.as_slice-else-seat-eq1.result.now ≡ weight_count f.sets2 = ap length c.as_slice-else-seat-eq1.ensures.value ∙ c.self.invariant.1.columns.sums ∙ ap (λ ns. first_weight ns (length ns)) acts ∙ all_is f.sets2 in
-    let is : c.args.seat ≡ 2 = elim c.requires.seat [ | inl e ↦ absurd (c.if-seat-eq1.false e) | inr e ↦ e ] in
+    let is : c.args.seat ≡ 2 = elim c.requires.seat [ inl e ↦ absurd (c.if-seat-eq1.false e) | inr e ↦ e ] in
     c.requires.places ∙ ap (λ k. weight_count (sets_of f k)) is ∙ sym count
 
 pub write_table-requires-else-seat-eq1-clause-few : goal.write_table-requires-else-seat-eq1-clause-few
@@ -94,7 +90,7 @@ returns-else-seat-eq1 c =
     let s = c.self.inside in
     let f = c.args.form.now in
     let e : c.sets-else-seat-eq1.result.now ≡ f.sets2 = c.sets-else-seat-eq1.ensures.sets in
-    let is : c.args.seat ≡ 2 = elim c.requires.seat [ | inl e ↦ absurd (c.if-seat-eq1.false e) | inr e ↦ e ] in
+    let is : c.args.seat ≡ 2 = elim c.requires.seat [ inl e ↦ absurd (c.if-seat-eq1.false e) | inr e ↦ e ] in
     let v = c.args.self.now in
     let xs : numbers c.as_slice-else-seat-eq1.result.now ≡ v.tally.sums2 = ap numbers c.as_slice-else-seat-eq1.ensures.value ∙ ap (λ (v : RegretsValue). v.tally.sums2) c.self.view_is in
     c.write_table-else-seat-eq1.ensures
