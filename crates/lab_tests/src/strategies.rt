@@ -1,7 +1,7 @@
 //! Strategies in the mode `session`: blueprints, bounds, expectations and weights.
 use crate::cases::{run_cases, session};
-use lab_game_texts::{FORK, PENNIES_2, kuhn_text, with_line};
 use lab_cli::Status;
+use lab_game_texts::{FORK, PENNIES_2, kuhn_text, with_line};
 use std::test::Fail;
 
 #[test]
