@@ -1,3 +1,4 @@
 mod WeightSizes
 mod BackedSizes
 mod SearchLemmas
+mod SmallFormLemmas

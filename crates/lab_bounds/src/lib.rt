@@ -6,3 +6,6 @@ mod broken;
 
 pub use bounds::{BoundTable, NoMemory};
 pub use broken::Broken;
+
+#[cfg(test)]
+mod tests;

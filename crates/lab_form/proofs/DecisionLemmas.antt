@@ -22,14 +22,14 @@ use Rattle.lab_form.proofs.ChainLemmas.{map_same_at}
 -- ---- sets, and steps at them
 
 -- a step at the first sets is one at all
-step_more : (i : ℕ) (sets : List FormSet) (step : Option (SetId × ℕ)) → i ≤ length sets → IsStepBelow (take i sets) step → IsStepBelow sets step
+pub step_more : (i : ℕ) (sets : List FormSet) (step : Option (SetId × ℕ)) → i ≤ length sets → IsStepBelow (take i sets) step → IsStepBelow sets step
 step_more i sets None l b = tt
 step_more i sets (Some t) l b =
     let w : t.0.0 < i = subst (λ n. t.0.0 < n) (length-take-le i sets l) b.0 in
     (omega (arith, w, l), subst (λ n. t.1 < n) (ap (λ ns. get_or ns t.0.0 0) (sym (take-map (λ (s : FormSet). s.actions) i sets)) ∙ get_or-take i (actions_in sets) t.0.0 0 w) b.1)
 
 -- what is so of no step, and of a step where it is of the parent of its set, is so of each step
-by_parents : (sets : List FormSet) (d : FormSet) → AreSets sets → (P : Option (SetId × ℕ) → Type 0) → P None
+pub by_parents : (sets : List FormSet) (d : FormSet) → AreSets sets → (P : Option (SetId × ℕ) → Type 0) → P None
     → ((t : SetId × ℕ) → IsStepBelow sets (Some t) → P (get_or sets t.0.0 d).parent → P (Some t)) → (step : Option (SetId × ℕ)) → IsStepBelow sets step → P step
 by_parents sets d ok P none more step b = below (length sets) step b (reach step b)
   where
@@ -67,7 +67,7 @@ sets_more sets s ok next i d l = at (cases_lt i (length sets))
         (subst (λ x. IsNextSet sets x) (sym (get_or_push sets s d i e)) next)
 
 -- the weights of the sets before one and its own are among all
-weight_room : (sets : List FormSet) (i : ℕ) (d : FormSet) → i < length sets → weight_count (take i sets) + weights_of (get_or sets i d).actions ≤ weight_count sets
+pub weight_room : (sets : List FormSet) (i : ℕ) (d : FormSet) → i < length sets → weight_count (take i sets) + weights_of (get_or sets i d).actions ≤ weight_count sets
 weight_room sets i d l =
     let whole : weight_count (take i sets ++ drop i sets) ≡ weight_count sets = ap weight_count (take-append-drop i sets) in
     let parts : weight_count (take i sets ++ drop i sets) ≡ weight_count (take i sets) + weight_count (drop i sets) =
@@ -88,6 +88,21 @@ deciding_push ns path t = ap last_step (filter-append p path (t ∷ [])) ∙ at 
     at true = last_after_push None (filter p path) t
     at false = ap last_step (append-nil (filter p path))
 
+-- the last decision of the path to a step is the step where its set decides, else that of the path to the set
+pub deciding_step : (sets : List FormSet) (t : SetId × ℕ) (d : FormSet) → AreSets sets → t.0.0 < length sets
+    → last_deciding (actions_in sets) (whole_path sets (Some t)) ≡ cond (nat_le 2 (get_or sets t.0.0 d).actions) (Some (taken_model t)) (last_deciding (actions_in sets) (whole_path sets (get_or sets t.0.0 d).parent))
+deciding_step sets t d ok l =
+    let ns = actions_in sets in
+    let ms = sets_model sets in
+    let i : ℕ = t.0.0 in
+    let s = get_or sets i d in
+    let path : whole_path sets (Some t) ≡ whole_path sets s.parent ++ taken_model t ∷ [] =
+    chain_step ms (taken_model t) (parents_below sets ok) (subst (λ n. i < n) (sym (model_length sets)) l)
+    ∙ ap (λ o. model.chain ms o ++ taken_model t ∷ []) (model_parent sets i d l) in
+    ap (last_deciding ns) path
+    ∙ deciding_push ns (whole_path sets s.parent) (taken_model t)
+    ∙ ap (λ b. cond b (Some (taken_model t)) (last_deciding ns (whole_path sets s.parent))) (ap (nat_le 2) (get_or-map (λ (s : FormSet). s.actions) sets i d 0 l))
+
 -- no step, no decision
 pub no_decision : (sets : List FormSet) → last_decision sets None ≡ 0
 no_decision sets = at (length (sets_model sets))
@@ -97,23 +112,17 @@ no_decision sets = at (length (sets_model sets))
     at (suc n) = refl
 
 -- the last decision of a step, by its set: the step itself where the set decides, else the last one above the set
-abbrev decision_at : List FormSet → FormSet → ℕ → ℕ
+abbrev pub decision_at : List FormSet → FormSet → ℕ → ℕ
 decision_at sets s a = cond (nat_le 2 s.actions) (s.first_weight + a + 1) (last_decision sets s.parent)
 
 pub decision_step : (sets : List FormSet) (t : SetId × ℕ) (d : FormSet) → AreSets sets → t.0.0 < length sets → last_decision sets (Some t) ≡ decision_at sets (get_or sets t.0.0 d) t.1
 decision_step sets t d ok l =
     let ns = actions_in sets in
-    let ms = sets_model sets in
     let i : ℕ = t.0.0 in
     let s = get_or sets i d in
-    let path : whole_path sets (Some t) ≡ whole_path sets s.parent ++ taken_model t ∷ [] =
-    chain_step ms (taken_model t) (parents_below sets ok) (subst (λ n. i < n) (sym (model_length sets)) l)
-    ∙ ap (λ o. model.chain ms o ++ taken_model t ∷ []) (model_parent sets i d l) in
     let first : first_weight ns i ≡ s.first_weight = ap (sum_over weights_of) (take-map (λ (s : FormSet). s.actions) i sets) ∙ sym (ok i d l).first in
-    ap (λ p. weight_number ns (last_deciding ns p)) path
-    ∙ ap (weight_number ns) (deciding_push ns (whole_path sets s.parent) (taken_model t))
-    ∙ inside (model.decides ns i) (whole_path sets s.parent)
-    ∙ ap (λ b. cond b (first_weight ns i + t.1 + 1) (last_decision sets s.parent)) (ap (nat_le 2) (get_or-map (λ (s : FormSet). s.actions) sets i d 0 l))
+    ap (weight_number ns) (deciding_step sets t d ok l)
+    ∙ inside (nat_le 2 s.actions) (whole_path sets s.parent)
     ∙ ap (λ n. cond (nat_le 2 s.actions) (n + t.1 + 1) (last_decision sets s.parent)) first
   where
     inside : (b : Bool) (p : List SetAction) → weight_number (actions_in sets) (cond b (Some (taken_model t)) (last_deciding (actions_in sets) p))
@@ -122,11 +131,11 @@ decision_step sets t d ok l =
     inside false p = refl
 
 -- a set that decides shows so
-decides_at : (sets : List FormSet) (s : FormSet) (a : ℕ) → 2 ≤ s.actions → decision_at sets s a ≡ s.first_weight + a + 1
+pub decides_at : (sets : List FormSet) (s : FormSet) (a : ℕ) → 2 ≤ s.actions → decision_at sets s a ≡ s.first_weight + a + 1
 decides_at sets s a l = ap (λ b. cond b (s.first_weight + a + 1) (last_decision sets s.parent)) (le-leb 2 s.actions l)
 
 -- and so does a pass
-passes_at : (sets : List FormSet) (s : FormSet) (a : ℕ) → s.actions < 2 → decision_at sets s a ≡ last_decision sets s.parent
+pub passes_at : (sets : List FormSet) (s : FormSet) (a : ℕ) → s.actions < 2 → decision_at sets s a ≡ last_decision sets s.parent
 passes_at sets s a l = ap (λ b. cond b (s.first_weight + a + 1) (last_decision sets s.parent)) (lt-leb 2 s.actions l)
 
 -- what the code gives for a step at a set that decides, and at a pass

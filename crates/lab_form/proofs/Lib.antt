@@ -4,5 +4,6 @@ mod ModelLemmas
 mod NumberLemmas
 mod ChainLemmas
 mod DecisionLemmas
+mod SetLemmas
 mod ColumnLemmas
 mod KeptLemmas

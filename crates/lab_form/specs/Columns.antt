@@ -3,9 +3,9 @@ use Rattle.std.specs.Prelude.{ℕ, zero, suc, ◌==◌, ◌≡◌, ◌<◌, ◌�
 use Rattle.lab_form.specs.declared.items.SetId.{SetId}
 use Rattle.lab_form.specs.declared.items.FormSet.{FormSet}
 use Rattle.lab_form.specs.declared.items.FormRow.{FormRow}
-use Rattle.lab_form.specs.Forms.{FormValue, AreSets, IsFormValue, last_of}
+use Rattle.lab_form.specs.Forms.{FormValue, AreSets, AreShort, IsFormValue, last_of}
 use Rattle.lab_form.specs.Chains.{last_to_first}
-use Rattle.lab_form.specs.Decisions.{decisions_above, row_decisions}
+use Rattle.lab_form.specs.Decisions.{decisions_above, row_decisions, sets_above, deciding_sets}
 
 -- ---- links
 
@@ -91,11 +91,14 @@ seat_with_set v s = record { sets = v.sets ++ s ∷ []; rows = with_place v.rows
 abbrev pub seat_with_row : SeatValue → Option (SetId × ℕ) → SeatValue
 seat_with_row v step = record { sets = v.sets; rows = with_number v.rows (place_of_step step); set_room = v.set_room }
 
--- the decisions above the sets of a seat, the chains of their children, and a place for the rows at each
-pub record AreColumns (sets : List FormSet) (above : List ℕ) (children rows : ChainsValue) (set_room : ℕ) : Type 0 where
+-- the decisions above the sets of a seat and the sets of these, the sets that decide, the chains of children, and a place for the rows at each
+pub record AreColumns (sets : List FormSet) (above over deciding : List ℕ) (children rows : ChainsValue) (set_room : ℕ) : Type 0 where
   pub order : AreSets sets
+  pub short : AreShort sets
   pub room : length sets ≤ set_room
   pub decisions : above ≡ decisions_above sets
+  pub sets_over : over ≡ sets_above sets
+  pub deciders : deciding ≡ deciding_sets sets
   pub chains : AreChains (length sets) (λ (s : FormSet). s.parent) sets children
   pub places : length rows.lists ≡ suc (length sets)
   pub child_places : children.set_room ≡ set_room

@@ -1,5 +1,5 @@
 -- Forms, as the program has them: with parents and last sets in place of whole paths.
-use Rattle.std.specs.Prelude.{ℕ, ◌≡◌, ◌<◌, ◌≤◌, List, [], ◌∷◌, ◌++◌, length, map, take, slice_index, slice_index_or, Option, Some, None, ⊤, if◌then◌else◌, ◌==◌}
+use Rattle.std.specs.Prelude.{ℕ, ◌^◌, ◌≡◌, ◌<◌, ◌≤◌, List, [], ◌∷◌, ◌++◌, length, map, take, slice_index, slice_index_or, Option, Some, None, ⊤, if◌then◌else◌, ◌==◌}
 use Rattle.std.specs.Option.{option_map}
 use Rattle.lab_math.specs.Sums.{sum_over}
 use Rattle.lab_defs_game.specs.Paths.{SetAction}
@@ -45,6 +45,10 @@ pub record IsNextSet (sets : List FormSet) (s : FormSet) : Type 0 where
 -- each set may come after those before it
 abbrev pub AreSets : List FormSet → Type 0
 AreSets sets = (i : ℕ) (d : FormSet) → i < length sets → IsNextSet (take i sets) (slice_index_or sets i d)
+
+-- each set says the place of its first weight in 32 bits
+abbrev pub AreShort : List FormSet → Type 0
+AreShort sets = (i : ℕ) (d : FormSet) → i < length sets → (slice_index_or sets i d).first_weight < 2 ^ 32
 
 -- the last step of a seat on a row
 abbrev pub last_of : FormRow → ℕ → Option (SetId × ℕ)

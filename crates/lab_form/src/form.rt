@@ -10,10 +10,16 @@ ghost use Rattle.lab_form.specs.Forms.{
   IsNextSet,
   IsNextRow,
   AreSets,
+  AreShort,
   AreRows,
 };
 ghost use Rattle.lab_form.specs.Chains.{children_of, rows_of, IsSetThere};
-ghost use Rattle.lab_form.specs.Decisions.{decisions_above, row_decisions};
+ghost use Rattle.lab_form.specs.Decisions.{
+  decisions_above,
+  row_decisions,
+  sets_above,
+  deciding_sets,
+};
 ghost use Rattle.lab_form.specs.Columns.{AreChains};
 ghost use Rattle.lab_form.specs.declared.items.FormRow.{FormRow};
 
@@ -132,6 +138,7 @@ impl Form {
         requires { (seat ≡ 1) ⊎ (seat ≡ 2) }
         ensures sets { result.now ≡ sets_of self.now seat }
         ensures order { AreSets result.now }
+        ensures short { AreShort result.now }
         ensures few { length result.now < 2 ^ 32 }
     {
         self.seat(seat).sets()
@@ -170,6 +177,22 @@ impl Form {
         ensures { result.now ≡ decisions_above (sets_of self.now seat) }
     {
         self.seat(seat).decisions_above()
+    }
+
+    /// For each set of a seat, 1 or 2, the set of the last decision above it: the number of that set plus one; 0 where there is none.
+    pub fn sets_above(&self, seat: u32) -> &[u32]
+        requires { (seat ≡ 1) ⊎ (seat ≡ 2) }
+        ensures { result.now ≡ sets_above (sets_of self.now seat) }
+    {
+        self.seat(seat).sets_above()
+    }
+
+    /// The numbers of the sets of a seat, 1 or 2, that have two or more actions, in order.
+    pub fn deciding_sets(&self, seat: u32) -> &[u32]
+        requires { (seat ≡ 1) ⊎ (seat ≡ 2) }
+        ensures { result.now ≡ deciding_sets (sets_of self.now seat) }
+    {
+        self.seat(seat).deciding_sets()
     }
 
     /// For each row the last decision of each seat along it, numbered as those above sets are.

@@ -1,25 +1,34 @@
 //! The information sets of one seat, with what is found of each when it is added.
 
 ghost use Rattle.std.specs.Prelude.{◌≡◌, ◌<◌, ◌^◌, [], length, slice_index_or, IfOk};
-ghost use Rattle.lab_form.specs.Forms.{AreSets, IsNextSet, IsStepBelow};
+ghost use Rattle.lab_form.specs.Forms.{AreSets, AreShort, IsNextSet, IsStepBelow};
 ghost use Rattle.lab_form.specs.Chains.{children_of, IsSetThere};
-ghost use Rattle.lab_form.specs.Decisions.{short_decision, decisions_above};
+ghost use Rattle.lab_form.specs.Decisions.{
+  short_decision,
+  decisions_above,
+  last_set,
+  sets_above,
+  deciding_sets,
+};
 ghost use Rattle.lab_form.specs.Columns.{empty_seat, seat_with_set, seat_with_row, place_of};
 
 use super::chain::Chain;
-use super::decision::last_decision;
+use super::decision::{last_decision, last_set};
 use super::form::NoMemory;
-use super::room::push;
+use super::room::{push, push_where};
 use super::step_chains::{StepChains, place, step_place};
 use crate::{FormSet, SetId};
 use std::alloc::Global;
 use std::marker::Model;
 
-/// The sets of a seat, for each the last decision above it, and the chains of its children and of its rows.
+/// The sets of a seat, for each the last decision above it and the set of that, which of them decide, and the chains of the
+/// children and of the rows of each.
 #[derive(Drop)]
 pub struct SeatSets {
     sets: Vec<FormSet>,
     above: Vec<u32>,
+    over: Vec<u32>,
+    deciding: Vec<u32>,
     children: StepChains,
     rows: StepChains,
     set_room: u32,
@@ -33,8 +42,9 @@ impl Model for SeatSets {
 
     ghost view = { λ s. record { sets = s.sets.items; rows = s.rows; set_room = s.set_room } };
 
-    ghost invariant = { λ s. AreColumns s.sets.items s.above.items s.children s.rows s.set_room
-        × (s.set_room ≤ vec_capacity s.sets) × (s.set_room ≤ vec_capacity s.above) × (s.set_room < 2 ^ 32) };
+    ghost invariant = { λ s. AreColumns s.sets.items s.above.items s.over.items s.deciding.items s.children s.rows s.set_room
+        × (s.set_room ≤ vec_capacity s.sets) × (s.set_room ≤ vec_capacity s.above)
+        × (s.set_room ≤ vec_capacity s.over) × (s.set_room ≤ vec_capacity s.deciding) × (s.set_room < 2 ^ 32) };
 }
 
 impl SeatSets {
@@ -48,11 +58,19 @@ impl SeatSets {
         let Ok(above) = Vec::with_capacity(alloc, sets as usize) else {
             return Err(NoMemory);
         };
+        let Ok(over) = Vec::with_capacity(alloc, sets as usize) else {
+            return Err(NoMemory);
+        };
+        let Ok(deciding) = Vec::with_capacity(alloc, sets as usize) else {
+            return Err(NoMemory);
+        };
         let children = StepChains::with_room(alloc, sets, sets)?;
         let rows = StepChains::with_room(alloc, sets, rows)?;
         Ok(SeatSets {
             sets: held,
             above,
+            over,
+            deciding,
             children,
             rows,
             set_room: sets,
@@ -65,6 +83,8 @@ impl SeatSets {
     {
         self.sets.clear();
         self.above.clear();
+        self.over.clear();
+        self.deciding.clear();
         self.children.clear();
         self.rows.clear();
     }
@@ -76,7 +96,11 @@ impl SeatSets {
         ensures { self.new ≡ seat_with_set self.old set }
     {
         let above = self.last_decision(set.parent);
+        let over = self.last_set(set.parent);
+        let number = self.sets.len() as u32;
         push(&mut self.above, above);
+        push(&mut self.over, over);
+        push_where(set.actions >= 2, &mut self.deciding, number);
         self.children.add(step_place(set.parent));
         self.children.add_place();
         self.rows.add_place();
@@ -96,6 +120,7 @@ impl SeatSets {
     pub fn sets(&self) -> &[FormSet]
         ensures sets { result.now ≡ self.now.sets }
         ensures order { AreSets result.now }
+        ensures short { AreShort result.now }
         ensures few { length result.now < 2 ^ 32 }
     {
         self.sets.as_slice()
@@ -107,6 +132,28 @@ impl SeatSets {
         ensures { result ≡ short_decision self.now.sets step }
     {
         last_decision(self.sets.as_slice(), self.above.as_slice(), step)
+    }
+
+    /// The set of the last decision along the path that ends with a step, plus one.
+    fn last_set(&self, step: Option<(SetId, u32)>) -> u32
+        requires { IsStepBelow self.now.sets step }
+        ensures { result ≡ last_set self.now.sets step }
+    {
+        last_set(self.sets.as_slice(), self.over.as_slice(), step)
+    }
+
+    /// For each set the set of the last decision above it, plus one.
+    pub fn sets_above(&self) -> &[u32]
+        ensures { result.now ≡ sets_above self.now.sets }
+    {
+        self.over.as_slice()
+    }
+
+    /// The sets that decide.
+    pub fn deciding_sets(&self) -> &[u32]
+        ensures { result.now ≡ deciding_sets self.now.sets }
+    {
+        self.deciding.as_slice()
     }
 
     /// For each set the last decision above it.

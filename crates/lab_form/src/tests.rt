@@ -104,6 +104,10 @@ fn walks_children_and_rows_and_numbers_decisions(rt: HostRuntime) -> Result<(), 
     assert!(rt; is_walk(form.rows_at(2, Some(SetId(1))), &[0]));
     assert_eq!(rt; form.decisions_above(1), [0, 2, 2, 1].as_slice());
     assert_eq!(rt; form.decisions_above(2), [0, 0].as_slice());
+    assert_eq!(rt; form.sets_above(1), [0, 1, 1, 1].as_slice());
+    assert_eq!(rt; form.sets_above(2), [0, 0].as_slice());
+    assert_eq!(rt; form.deciding_sets(1), [0, 2, 3].as_slice());
+    assert_eq!(rt; form.deciding_sets(2), [1].as_slice());
     assert_eq!(rt; form.last_decisions(), [[5, 2], [2, 0], [3, 0]].as_slice());
     Ok(())
 }
@@ -123,7 +127,8 @@ fn walks_what_comes_after_it_was_cleared(rt: HostRuntime) -> Result<(), Fail> {
     assert!(rt;
         is_walk(form.rows_at(1, None), &[0]) && is_walk(form.rows_at(2, Some(SetId(0))), &[0])
     );
-    assert!(rt; form.decisions_above(1).is_empty());
+    assert!(rt; form.decisions_above(1).is_empty() && form.sets_above(1).is_empty());
+    assert!(rt; form.deciding_sets(1).is_empty() && form.deciding_sets(2).len() == 1);
     assert_eq!(rt; form.last_decisions(), [[0, 3]].as_slice());
     Ok(())
 }
