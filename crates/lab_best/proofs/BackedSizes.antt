@@ -1,21 +1,21 @@
 -- How large what actions back up is.
-use Rattle.std.proofs.Common.{◌≡◌, ℕ, zero, suc, ◌+◌, ◌^◌, ◌<◌, ◌≤◌, ℤ, pos, ◌+ℤ◌, List, [], ◌∷◌, Bool, true, false, cond, length, map, take, get_or, refl, sym, ap, ◌∙◌, subst, arith}
-use Rattle.std.specs.Prelude.{unsigned_abs, ◌++◌}
+use Rattle.std.proofs.Common.{◌≡◌, ℕ, zero, suc, ◌+◌, ◌^◌, ◌<◌, ◌≤◌, ℤ, pos, List, [], ◌∷◌, Bool, true, false, cond, length, map, take, get_or, sym, ap, ◌∙◌, subst, arith}
+use Rattle.std.specs.Prelude.{unsigned_abs}
 use Rattle.std.specs.List.{All, range_with_len}
 use Rattle.std.proofs.lemmas.Int.{ints}
 use Rattle.std.proofs.lemmas.List.{take_more, take_all, length-map, get_or-map}
-use Rattle.lab_math.specs.Sums.{sum_over, total}
+use Rattle.lab_math.specs.Sums.{sum_over}
 use Rattle.lab_math.specs.Below.{total_below}
 use Rattle.lab_math.proofs.Totals.{total_size}
 use Rattle.lab_math.proofs.NaturalSums.{sum_over-append, sum_over-map}
 use Rattle.lab_units.specs.declared.worth.Worth.{Worth}
-use Rattle.lab_defs_game.specs.Forms.{Row, parent_of, path_of}
+use Rattle.lab_defs_game.specs.Forms.{parent_of, path_of}
 use Rattle.lab_defs_game.specs.Paths.{is_taken, last_step}
 use Rattle.lab_defs_value.specs.Replies.{Strategy, reply_sets, opponent, worth_against}
 use Rattle.lab_defs_value.specs.Bounds.{at, through, through_rows}
 use Rattle.lab_defs_value.specs.Laws.{worth_sizes}
 use Rattle.lab_best.specs.Values.{numbers}
-use Rattle.lab_best.proofs.NumberLemmas.{number_at, number_in_range, range_length}
+use Rattle.lab_best.proofs.NumberLemmas.{number_in_range, range_length}
 
 -- what is counted or not is no larger
 counted : (b : Bool) (z : ℤ) → unsigned_abs (cond b z (pos 0)) ≤ unsigned_abs z

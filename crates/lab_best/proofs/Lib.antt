@@ -1,6 +1,8 @@
 pub mod CallerLemmas
 mod NumberLemmas
 mod WeightLemmas
+mod PathLemmas
+mod KeptLemmas
 mod SmallFormLemmas
 mod FoundLemmas
 mod BackedSizes

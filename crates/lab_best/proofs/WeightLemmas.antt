@@ -2,7 +2,6 @@
 use Rattle.std.proofs.Common.{◌≡◌, ℕ, zero, suc, ◌+◌, ◌*◌, ◌-◌, ◌^◌, ◌<◌, ◌≤◌, Bool, true, false, cond, List, [], ◌∷◌, ◌++◌, drop, length, get_or, Option, Some, None, refl, sym, ap, ◌∙◌, subst, arith, mul-le-mul, pow-suc, pow-add}
 use Rattle.std.proofs.Math.Nat.{one-le-pow}
 use Rattle.std.specs.Prelude.{nat_le, slice_index}
-use Rattle.std.specs.Option.{option_map}
 use Rattle.std.proofs.lemmas.Bool.{le-leb}
 use Rattle.std.proofs.lemmas.List.{get_or-map, length-map, take-map, drop_more}
 use native.Mathlib.Nat.{le_of_eq, pow-zero}
@@ -13,16 +12,14 @@ use Rattle.lab_defs_game.specs.Forms.{decides, deciding}
 use Rattle.lab_defs_game.specs.Forms as model
 use Rattle.lab_defs_game.proofs.FormLemmas.{count_push}
 use Rattle.lab_defs_value.specs.Tables.{weights_of, first_weight, factor}
-use Rattle.lab_defs_value.specs.Parents as value
 use Rattle.lab_defs_value.proofs.WholeLaw.{product_push}
 use Rattle.lab_defs_value.proofs.SubgameRows.{first_weight_from}
 use Rattle.lab_form.specs.declared.items.SetId.{SetId}
 use Rattle.lab_form.specs.declared.items.FormSet.{FormSet}
 use Rattle.lab_form.specs.Forms.{IsStepBelow, actions_in, taken_model, sets_model, whole_path}
-use Rattle.lab_form.specs.Columns.{place_of_step}
-use Rattle.lab_form.proofs.CallerLemmas.{chain_step, model_length, model_parent, parents_below, step_there}
+use Rattle.lab_form.proofs.CallerLemmas.{chain_step, model_length, model_parent, parents_below}
 use Rattle.lab_table.proofs.CallerLemmas.{weights_sum}
-use Rattle.lab_best.specs.Rows.{path_weight, path_factors, set_at, step_weight, HasWeight, IsPlayed}
+use Rattle.lab_best.specs.Rows.{path_weight, path_factors, set_at, step_weight, weight_above, count_above, HasWeight, IsPlayed}
 
 -- what reads as a set past the last one
 abbrev pub no_set : FormSet
@@ -71,6 +68,13 @@ module _ (grid : ℕ) (sets : List FormSet) (table : List ℕ) (ok : IsPlayed gr
       let own : factor (actions_in sets) table (taken_model t) ≡ 1 = ap (λ b. cond b (slice_index table (first_weight (actions_in sets) t.0.0 + t.1)) 1) e in
       omega (arith, own, pow-zero grid)
 
+  -- where the set decides the weight is at most the grid
+  pub step_most : 2 ≤ (set_at sets t.0.0).actions → step_weight sets table t ≤ grid
+  step_most two =
+      let one : grid ^ 1 ≡ grid = pow-suc grid 0 ∙ ap (λ x. x * grid) (pow-zero grid) ∙ omega arith in
+      let most = factor_most true (ap (nat_le 2) actions_is ∙ le-leb 2 (set_at sets t.0.0).actions two) in
+      subst (λ x. x ≤ grid) factor_is (omega (arith, most, one))
+
   -- ---- the path that ends with the step
 
   -- it is the path that ends with the parent of its set, with the step
@@ -79,36 +83,27 @@ module _ (grid : ℕ) (sets : List FormSet) (table : List ℕ) (ok : IsPlayed gr
       chain_step (sets_model sets) (taken_model t) (parents_below sets ok.order) (omega (arith, there.0, model_length sets))
       ∙ ap (λ o. model.chain (sets_model sets) o ++ taken_model t ∷ []) (model_parent sets t.0.0 no_set there.0)
 
-  -- the step that it follows is there
-  pub parent_there : IsStepBelow sets (set_at sets t.0.0).parent × (place_of_step (set_at sets t.0.0).parent < suc t.0.0)
-  parent_there = above (set_at sets t.0.0).parent (step_there t.0.0 sets (set_at sets t.0.0).parent (omega (arith, there.0)) (ok.order t.0.0 no_set there.0).parent)
-    where
-      above : (o : Option (SetId × ℕ)) → value.IsStepBelow (actions_in sets) t.0.0 (option_map taken_model o) → IsStepBelow sets o × (place_of_step o < suc t.0.0)
-      above None h = (tt, omega arith)
-      above (Some u) h = ((omega (arith, h.0, there.0), h.1), omega (arith, h.0))
+  -- the weights on it are those on the path to its set, and that of the step
+  pub path_value : product_over (factor (actions_in sets) table) (whole_path sets (Some t)) ≡ weight_above sets table t.0.0 * step_weight sets table t
+  path_value =
+      ap (product_over (factor (actions_in sets) table)) path_is
+      ∙ product_push (factor (actions_in sets) table) (whole_path sets (set_at sets t.0.0).parent) (taken_model t)
+      ∙ ap (λ x. weight_above sets table t.0.0 * x) factor_is
 
-  -- a weight with that of the step, and the path to the parent, come to as much as the weight and the path to the step
-  pub walk_value : (weight own : ℕ) → own ≡ step_weight sets table t
-      → (weight * own) * product_over (factor (actions_in sets) table) (whole_path sets (set_at sets t.0.0).parent) ≡ weight * product_over (factor (actions_in sets) table) (whole_path sets (Some t))
-  walk_value weight own e =
-      let rest = product_over (factor (actions_in sets) table) (whole_path sets (set_at sets t.0.0).parent) in
-      let whole : product_over (factor (actions_in sets) table) (whole_path sets (Some t)) ≡ rest * own =
-      ap (product_over (factor (actions_in sets) table)) path_is ∙ product_push (factor (actions_in sets) table) (whole_path sets (set_at sets t.0.0).parent) (taken_model t) ∙ ap (λ x. rest * x) (factor_is ∙ sym e) in
-      regroup weight own rest ∙ sym (ap (λ x. weight * x) whole)
-    where
-      regroup : (w x r : ℕ) → (w * x) * r ≡ w * (r * x)
-      regroup w x r = omega arith
+  -- and so are the decisions
+  pub path_count : deciding (actions_in sets) (whole_path sets (Some t)) ≡ count_above sets t.0.0 + cond (nat_le 2 (set_at sets t.0.0).actions) 1 0
+  path_count =
+      ap (deciding (actions_in sets)) path_is
+      ∙ count_push (λ (u : SetAction). decides (actions_in sets) u.set) (whole_path sets (set_at sets t.0.0).parent) (taken_model t)
+      ∙ ap (λ n. count_above sets t.0.0 + cond (nat_le 2 n) (suc zero) zero) actions_is
 
-  -- and are as small
-  pub walk_small : (weight own : ℕ) → own ≡ step_weight sets table t
-      → (weight * own) * grid ^ deciding (actions_in sets) (whole_path sets (set_at sets t.0.0).parent) ≤ weight * grid ^ deciding (actions_in sets) (whole_path sets (Some t))
-  walk_small weight own e =
-      let before = deciding (actions_in sets) (whole_path sets (set_at sets t.0.0).parent) in
-      let one = cond (decides (actions_in sets) t.0.0) (suc zero) zero in
-      let count : deciding (actions_in sets) (whole_path sets (Some t)) ≡ before + one =
-      ap (deciding (actions_in sets)) path_is ∙ count_push (λ (u : SetAction). decides (actions_in sets) u.set) (whole_path sets (set_at sets t.0.0).parent) (taken_model t) in
-      let power : grid ^ deciding (actions_in sets) (whole_path sets (Some t)) ≡ grid ^ before * grid ^ one = ap (λ k. grid ^ k) count ∙ pow-add grid before one in
-      let most : own ≤ grid ^ one = subst (λ x. x ≤ grid ^ one) (factor_is ∙ sym e) (factor_most (decides (actions_in sets) t.0.0) refl) in
+  -- a weight with that of the step is as small
+  pub step_small : (weight own : ℕ) → own ≡ step_weight sets table t → (weight * own) * grid ^ count_above sets t.0.0 ≤ weight * grid ^ deciding (actions_in sets) (whole_path sets (Some t))
+  step_small weight own e =
+      let before : ℕ = count_above sets t.0.0 in
+      let one : ℕ = cond (nat_le 2 (set_at sets t.0.0).actions) (suc zero) zero in
+      let power : grid ^ deciding (actions_in sets) (whole_path sets (Some t)) ≡ grid ^ before * grid ^ one = ap (λ k. grid ^ k) path_count ∙ pow-add grid before one in
+      let most : own ≤ grid ^ one = subst (λ x. x ≤ grid ^ one) (factor_is ∙ sym e) (subst (λ n. factor (actions_in sets) table (taken_model t) ≤ grid ^ cond (nat_le 2 n) 1 0) actions_is (factor_most (decides (actions_in sets) t.0.0) refl)) in
       let le : (weight * own) * grid ^ before ≤ (weight * grid ^ one) * grid ^ before = mul-le-mul (mul-le-mul (le_of_eq refl) most) (le_of_eq refl) in
       omega (arith, le, regroup weight (grid ^ one) (grid ^ before), ap (λ x. weight * x) power)
     where
@@ -118,7 +113,7 @@ module _ (grid : ℕ) (sets : List FormSet) (table : List ℕ) (ok : IsPlayed gr
 -- ---- the whole path
 
 -- no path ends with no step
-path_none : (sets : List FormSet) → whole_path sets None ≡ []
+pub path_none : (sets : List FormSet) → whole_path sets None ≡ []
 path_none sets = at (length (sets_model sets))
   where
     at : (n : ℕ) → model.chain_within (sets_model sets) n None ≡ []
@@ -135,15 +130,6 @@ walk_begins grid sets table step pad =
     let power : grid ^ (n + pad) ≡ grid ^ n * grid ^ pad = pow-add grid n pad in
     (omega arith, omega (arith, power))
 
--- where it ends, the weight is the whole
-pub walk_ends : (grid : ℕ) (sets : List FormSet) (table : List ℕ) (weight : ℕ)
-    → (weight * product_over (factor (actions_in sets) table) (whole_path sets None) ≡ weight) × (weight * grid ^ deciding (actions_in sets) (whole_path sets None) ≡ weight)
-walk_ends grid sets table weight =
-    let none = path_none sets in (
-      ap (λ path. weight * product_over (factor (actions_in sets) table) path) none ∙ omega arith,
-      ap (λ path. weight * grid ^ deciding (actions_in sets) path) none ∙ ap (λ x. weight * x) (pow-zero grid) ∙ omega arith,
-    )
-
 -- a weight is at most itself by a power of a grid
 pub weight_within : (grid weight n : ℕ) → 1 ≤ grid → weight ≤ weight * grid ^ n
 weight_within grid weight n least =
@@ -151,27 +137,30 @@ weight_within grid weight n least =
     let le : weight * 1 ≤ weight * grid ^ n = mul-le-mul (le_of_eq refl) one in
     omega (arith, le)
 
--- ---- a step back in a walk
+-- ---- the first step of a walk
 
--- what is known of it: the step that it goes on with is there and lower, and weight and path come to as much and stay as small
-pub record IsWalkStep (grid : ℕ) (sets : List FormSet) (table : List ℕ) (step parent : Option (SetId × ℕ)) (weight own : ℕ) : Type 0 where
-  pub below : IsStepBelow sets parent
-  pub lower : place_of_step parent < place_of_step step
-  pub value : (weight * own) * product_over (factor (actions_in sets) table) (whole_path sets parent) ≡ weight * product_over (factor (actions_in sets) table) (whole_path sets step)
-  pub small : (weight * own) * grid ^ deciding (actions_in sets) (whole_path sets parent) ≤ weight * grid ^ deciding (actions_in sets) (whole_path sets step)
-  pub within : weight * own ≤ weight * grid ^ deciding (actions_in sets) (whole_path sets step)
+-- what is known of it: with the step's own weight and what is above its set all comes to the weight of the path, and stays as small
+pub record IsPathStep (grid : ℕ) (sets : List FormSet) (table : List ℕ) (step : Option (SetId × ℕ)) (pad set weight own : ℕ) : Type 0 where
+  pub value : (weight * own) * weight_above sets table set ≡ path_weight grid sets table step pad
+  pub small : (weight * own) * grid ^ count_above sets set ≤ grid ^ path_factors sets step pad
+  pub within : weight * own ≤ grid ^ path_factors sets step pad
 
--- a walk goes on with the parent of the set of a step
-pub walk_step : (grid : ℕ) (sets : List FormSet) (table : List ℕ) → IsPlayed grid sets table → (t : SetId × ℕ) (step : Option (SetId × ℕ)) (weight own : ℕ) → step ≡ Some t → IsStepBelow sets step → own ≡ step_weight sets table t
-    → IsWalkStep grid sets table step (set_at sets t.0.0).parent weight own
-walk_step grid sets table ok t step weight own e b w =
+-- a walk from a step begins with the grid for each decision more
+pub first_step : (grid : ℕ) (sets : List FormSet) (table : List ℕ) → IsPlayed grid sets table → (step : Option (SetId × ℕ)) (t : SetId × ℕ) (pad weight own : ℕ) → step ≡ Some t → IsStepBelow sets step
+    → weight ≡ grid ^ pad → own ≡ step_weight sets table t → IsPathStep grid sets table step pad t.0.0 weight own
+first_step grid sets table ok step t pad weight own e b w o =
     let there : IsStepBelow sets (Some t) = subst (IsStepBelow sets) e b in
-    let parent = parent_there grid sets table ok t there in
-    let small = walk_small grid sets table ok t there weight own w in
-    subst (λ o. IsWalkStep grid sets table o (set_at sets t.0.0).parent weight own) (sym e) record {
-      below = parent.0;
-      lower = parent.1;
-      value = walk_value grid sets table ok t there weight own w;
+    let begin = walk_begins grid sets table (Some t) pad in
+    let whole : (grid ^ pad) * product_over (factor (actions_in sets) table) (whole_path sets (Some t)) ≡ weight * (weight_above sets table t.0.0 * own) =
+    ap (λ x. x * product_over (factor (actions_in sets) table) (whole_path sets (Some t))) (sym w) ∙ ap (λ x. weight * x) (path_value grid sets table ok t there ∙ ap (λ x. weight_above sets table t.0.0 * x) (sym o)) in
+    let start : weight * grid ^ deciding (actions_in sets) (whole_path sets (Some t)) ≤ grid ^ path_factors sets (Some t) pad = subst (λ x. x * grid ^ deciding (actions_in sets) (whole_path sets (Some t)) ≤ grid ^ path_factors sets (Some t) pad) (sym w) begin.1 in
+    let own_small = step_small grid sets table ok t there weight own o in
+    let small : (weight * own) * grid ^ count_above sets t.0.0 ≤ grid ^ path_factors sets (Some t) pad = omega (arith, own_small, start) in
+    subst (λ p. IsPathStep grid sets table p pad t.0.0 weight own) (sym e) record {
+      value = regroup weight own (weight_above sets table t.0.0) ∙ sym whole ∙ begin.0;
       small = small;
-      within = omega (arith, small, weight_within grid (weight * own) (deciding (actions_in sets) (whole_path sets (set_at sets t.0.0).parent)) ok.least);
+      within = omega (arith, small, weight_within grid (weight * own) (count_above sets t.0.0) ok.least);
     }
+  where
+    regroup : (w x r : ℕ) → (w * x) * r ≡ w * (r * x)
+    regroup w x r = omega arith

@@ -1,13 +1,15 @@
 -- Rows of the program's forms, by what weights of a seat come to on them.
-use Rattle.std.specs.Prelude.{ℕ, ◌+◌, ◌*◌, ◌^◌, ◌<◌, ◌≤◌, ℤ, pos, ◌*ℤ◌, max, unsigned_abs, List, length, Option, None, ◌==◌, nat_le, if◌then◌else◌, slice_index, slice_index_or}
+use Rattle.std.specs.Prelude.{ℕ, ◌+◌, ◌*◌, ◌^◌, ◌<◌, ◌≤◌, ℤ, pos, ◌*ℤ◌, max, unsigned_abs, ◌≡◌, List, length, map, Option, None, ◌==◌, nat_le, if◌then◌else◌, slice_index, slice_index_or}
+use Rattle.lab_math.specs.Sums.{product_over}
 use Rattle.lab_defs_game.specs.Forms.{deciding}
 use Rattle.lab_defs_game.specs.Seats.{other}
-use Rattle.lab_defs_value.specs.Tables.{own_weight}
+use Rattle.lab_defs_value.specs.Tables.{own_weight, factor}
 use Rattle.lab_defs_value.specs.Replies.{worth_to}
 use Rattle.lab_form.specs.declared.items.SetId.{SetId}
 use Rattle.lab_form.specs.declared.items.FormSet.{FormSet}
 use Rattle.lab_form.specs.declared.items.FormRow.{FormRow}
 use Rattle.lab_form.specs.Forms.{actions_in, whole_path, last_of, AreSets, IsStepBelow}
+use Rattle.lab_form.specs.Decisions.{last_decision, sets_above}
 use Rattle.lab_table.specs.Tables.{AreWeights}
 
 -- the factors of the grid that a seat still brings to a row
@@ -55,6 +57,19 @@ pub record IsPlayed (grid : ℕ) (sets : List FormSet) (table : List ℕ) : Type
   pub order : AreSets sets
   pub weights : AreWeights grid (actions_in sets) table
   pub least : 1 ≤ grid
+
+-- the weights on the path to a set
+abbrev pub weight_above : List FormSet → List ℕ → ℕ → ℕ
+weight_above sets weights set = product_over (factor (actions_in sets) weights) (whole_path sets (set_at sets set).parent)
+
+-- how many decisions are on it
+abbrev pub count_above : List FormSet → ℕ → ℕ
+count_above sets set = deciding (actions_in sets) (whole_path sets (set_at sets set).parent)
+
+-- the last decision above each of a seat's sets, and the set of that
+pub record ArePaths (sets : List FormSet) (above over : List ℕ) : Type 0 where
+  pub decisions : above ≡ map (λ s. last_decision sets s.parent) sets
+  pub sets_over : over ≡ sets_above sets
 
 -- a row ends at a step of the seat that is there, and its worth, at least 1, by the grid for each factor of the seat comes to no more than 2^77
 pub record IsSmallRow (seat grid : ℕ) (sets : List FormSet) (r : FormRow) : Type 0 where

@@ -10,6 +10,7 @@ ghost use Rattle.lab_table.specs.Tables.{seat_actions, AreWeights};
 ghost use Rattle.lab_best.specs.Values.{strategy_in, numbers, best_values, IsSmallFor, IsFirstBest};
 
 use super::greatest::best_at;
+use super::memo::nothing_kept;
 use super::worth::set_to_zero;
 use lab_form::{Form, SetId, other};
 use lab_units::Worth;
@@ -24,10 +25,13 @@ pub fn best_table(form: &Form, keeper: u32, d: u32, weights: &[u32], out: &mut [
     ensures tight { Tight (strategy_in form.now keeper d weights.now) (at (numbers out.new)) }
 {
     set_to_zero(out);
+    let mut kept = [nothing_kept(); 256];
+    let mut sums = [Worth(0); 32];
     let mut number = form.sets(other(keeper)).len();
     while number > 0 {
         number -= 1;
-        let (value, _) = best_at(form, keeper, d, weights, out, SetId(number as u32));
+        let set = SetId(number as u32);
+        let (value, _) = best_at(form, keeper, d, weights, out, set, &mut kept, &mut sums);
         out[number] = value;
     }
 }
@@ -55,10 +59,13 @@ pub fn best_reply(
         → earned (strategy_in form.now keeper d weights.now) (pure_reply actions.new) J ≡ at (numbers values.new) J }
 {
     set_to_zero(values);
+    let mut kept = [nothing_kept(); 256];
+    let mut sums = [Worth(0); 32];
     let mut number = form.sets(other(keeper)).len();
     while number > 0 {
         number -= 1;
-        let (value, action) = best_at(form, keeper, d, weights, values, SetId(number as u32));
+        let set = SetId(number as u32);
+        let (value, action) = best_at(form, keeper, d, weights, values, set, &mut kept, &mut sums);
         values[number] = value;
         actions[number] = action;
     }

@@ -5,11 +5,14 @@ ghost use Rattle.std.specs.Int.RustNames.{unsigned_abs};
 ghost use Rattle.lab_defs_value.specs.Expectation.{expectation};
 ghost use Rattle.lab_defs_value.specs.Smallness.{IsSmall};
 ghost use Rattle.lab_form.specs.Forms.{form_model};
-ghost use Rattle.lab_best.specs.Rows.{row_term, IsPlayed, IsSmallTerm};
+ghost use Rattle.lab_best.specs.Kept.{AreKept};
+ghost use Rattle.lab_best.specs.Rows.{row_term, ArePaths, IsPlayed, IsSmallTerm};
 ghost use Rattle.lab_table.specs.Tables.{seat_actions, AreWeights};
 
+use super::memo::{Kept, nothing_kept};
+use super::weight::{Paths, paths_of};
 use super::worth::{plus, row_weight, weigh};
-use lab_form::{Form, FormRow, FormSet};
+use lab_form::{Form, FormRow};
 use lab_units::Worth;
 
 /// What seat 1 expects where both seats play these weights, each on its grid: the sum over all rows of the worth times both seats'
@@ -20,30 +23,49 @@ pub fn expect(form: &Form, grids: [u32; 2], one: &[u32], two: &[u32]) -> Worth
     requires two { AreWeights (slice_index grids 1) (seat_actions form.now 2) two.now }
     ensures { result.0 ≡ expectation (slice_index grids 0) (slice_index grids 1) (form_model form.now) one.now two.now }
 {
-    let (sets_one, sets_two) = (form.sets(1), form.sets(2));
+    let (paths_one, paths_two) = (paths_of(form, 1), paths_of(form, 2));
+    let (mut kept_one, mut kept_two) = ([nothing_kept(); 256], [nothing_kept(); 256]);
     let mut sum = Worth(0);
     for row in form.rows() {
-        sum = plus(sum, row_term(sets_one, sets_two, grids, one, two, row));
+        let term = row_term(
+            &paths_one,
+            &paths_two,
+            grids,
+            one,
+            two,
+            row,
+            &mut kept_one,
+            &mut kept_two,
+        );
+        sum = plus(sum, term);
     }
     sum
 }
 
 /// What a row is worth to seat 1 by the weights of both seats.
 fn row_term(
-    sets_one: &[FormSet],
-    sets_two: &[FormSet],
+    paths_one: &Paths<'_>,
+    paths_two: &Paths<'_>,
     grids: [u32; 2],
     one: &[u32],
     two: &[u32],
     row: &FormRow,
+    kept_one: &mut [Kept],
+    kept_two: &mut [Kept],
 ) -> Worth
-    requires one { IsPlayed (slice_index grids 0) sets_one.now one.now }
-    requires two { IsPlayed (slice_index grids 1) sets_two.now two.now }
-    requires small { IsSmallTerm (slice_index grids 0) (slice_index grids 1) sets_one.now sets_two.now row.now }
-    ensures value { result.0 ≡ row_term (slice_index grids 0) (slice_index grids 1) sets_one.now sets_two.now one.now two.now row.now }
+    requires paths_one { ArePaths paths_one.now.sets.now paths_one.now.above.now paths_one.now.over.now }
+    requires paths_two { ArePaths paths_two.now.sets.now paths_two.now.above.now paths_two.now.over.now }
+    requires one { IsPlayed (slice_index grids 0) paths_one.now.sets.now one.now }
+    requires two { IsPlayed (slice_index grids 1) paths_two.now.sets.now two.now }
+    requires small { IsSmallTerm (slice_index grids 0) (slice_index grids 1) paths_one.now.sets.now paths_two.now.sets.now row.now }
+    requires kept_one { AreKept (slice_index grids 0) paths_one.now.sets.now one.now kept_one.old }
+    requires kept_two { AreKept (slice_index grids 1) paths_two.now.sets.now two.now kept_two.old }
+    ensures value { result.0 ≡ row_term (slice_index grids 0) (slice_index grids 1) paths_one.now.sets.now paths_two.now.sets.now one.now two.now row.now }
     ensures within { unsigned_abs result.0 ≤ 2 ^ 77 }
+    ensures kept_one { AreKept (slice_index grids 0) paths_one.now.sets.now one.now kept_one.new }
+    ensures kept_two { AreKept (slice_index grids 1) paths_two.now.sets.now two.now kept_two.new }
 {
-    let weight_one = row_weight(sets_one, 1, grids[0], one, row);
-    let weight_two = row_weight(sets_two, 2, grids[1], two, row);
+    let weight_one = row_weight(paths_one, 1, grids[0], one, row, kept_one);
+    let weight_two = row_weight(paths_two, 2, grids[1], two, row, kept_two);
     weigh(row.worth, weight_one * weight_two)
 }

@@ -8,15 +8,17 @@ ghost use Rattle.lab_defs_value.specs.BestValues.{best_response_value};
 ghost use Rattle.lab_defs_value.specs.Bounds.{at};
 ghost use Rattle.lab_form.specs.Forms.{sets_of, form_model};
 ghost use Rattle.lab_table.specs.Tables.{seat_actions, AreWeights};
+ghost use Rattle.lab_best.specs.Kept.{AreKept};
 ghost use Rattle.lab_best.specs.Parts.{IsFirstGreatest};
 ghost use Rattle.lab_best.specs.Values.{strategy_in, numbers, IsSmallFor, IsFirstBest, AreBest};
 
+use super::memo::Kept;
 use super::through::back_up;
 use lab_form::{Form, SetId, other};
 use lab_units::Worth;
 
 /// The best-response value at a set of the keeper's opponent, by those at the sets after it, and the first of its actions that backs
-/// it up. The actions are taken 32 at a time.
+/// it up. The actions are taken 32 at a time, with `sums` to write on.
 pub fn best_at(
     form: &Form,
     keeper: u32,
@@ -24,6 +26,8 @@ pub fn best_at(
     weights: &[u32],
     values: &[Worth],
     set: SetId,
+    kept: &mut [Kept],
+    sums: &mut [Worth; 32],
 ) -> (Worth, u32)
     requires keeper { (keeper ≡ 1) ⊎ (keeper ≡ 2) }
     requires small { IsSmallFor keeper d form.now }
@@ -32,19 +36,20 @@ pub fn best_at(
     requires sizes { All (λ w. unsigned_abs w.0 ≤ 2 ^ 94) values.now }
     requires there { set.0 < length (sets_of form.now (other keeper)) }
     requires after { AreBest (strategy_in form.now keeper d weights.now) (set.0 + 1) (numbers values.now) }
+    requires kept { AreKept d (sets_of form.now keeper) weights.now kept.old }
     ensures sound { IsForm (form_model form.now) (other keeper) }
     ensures best { result.0.0 ≡ best_response_value (strategy_in form.now keeper d weights.now) set.0 }
     ensures first { IsFirstBest (strategy_in form.now keeper d weights.now) set.0 result.1 }
     ensures small { unsigned_abs result.0.0 ≤ 2 ^ 94 }
+    ensures kept { AreKept d (sets_of form.now keeper) weights.now kept.new }
 {
     let actions = form.sets(other(keeper))[set.0 as usize].actions;
     let mut best = (Worth(0), 0);
-    let mut sums = [Worth(0); 32];
     let mut first = 0u32;
     while first < actions {
         let count = (actions - first).min(32);
         let part = &mut sums[..count as usize];
-        back_up(form, keeper, d, weights, values, set, first, part);
+        back_up(form, keeper, d, weights, values, set, first, part, kept);
         best = better(best, first, part);
         first += count;
     }

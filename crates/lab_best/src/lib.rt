@@ -4,6 +4,7 @@
 mod best;
 mod expectation;
 mod greatest;
+mod memo;
 mod through;
 mod weight;
 mod worth;

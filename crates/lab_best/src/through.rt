@@ -9,11 +9,14 @@ ghost use Rattle.lab_defs_value.specs.Parents.{IsForm};
 ghost use Rattle.lab_defs_value.specs.Bounds.{at, through, through_rows};
 ghost use Rattle.lab_defs_value.specs.Laws.{worth_sizes};
 ghost use Rattle.lab_form.specs.Forms.{sets_of, last_of, form_model, AreSets, AreRows};
-ghost use Rattle.lab_best.specs.Rows.{row_worth, IsPlayed, IsSmallRow};
+ghost use Rattle.lab_best.specs.Kept.{AreKept};
+ghost use Rattle.lab_best.specs.Rows.{row_worth, ArePaths, IsPlayed, IsSmallRow};
 ghost use Rattle.lab_table.specs.Tables.{seat_actions, AreWeights};
 ghost use Rattle.lab_best.specs.Parts.{is_among, part_at, children_value};
 ghost use Rattle.lab_best.specs.Values.{strategy_in, numbers, IsSmallFor};
 
+use super::memo::{Kept, nothing_kept};
+use super::weight::{Paths, paths_of};
 use super::worth::{last_of, plus, row_worth, set_to_zero};
 use lab_form::{Form, FormRow, FormSet, SetId, other};
 use lab_units::Worth;
@@ -40,10 +43,12 @@ pub fn action_values(
     ensures values { numbers out.new ≡ map (through (strategy_in form.now keeper d weights.now) (at (numbers values.now)) set.0) (range_with_len first (length out.old)) }
     ensures sizes { All (λ w. unsigned_abs w.0 ≤ sum_over (λ v. unsigned_abs v.0) values.now + 2 ^ 94) out.new }
 {
-    back_up(form, keeper, d, weights, values, set, first, out);
+    let mut kept = [nothing_kept(); 8];
+    back_up(form, keeper, d, weights, values, set, first, out, &mut kept);
 }
 
 /// The same, with what is known of the form by which these values are the best ones where the others are.
+#[inline(always)]
 pub fn back_up(
     form: &Form,
     keeper: u32,
@@ -53,6 +58,7 @@ pub fn back_up(
     set: SetId,
     first: u32,
     out: &mut [Worth],
+    kept: &mut [Kept],
 )
     requires keeper { (keeper ≡ 1) ⊎ (keeper ≡ 2) }
     requires small { IsSmallFor keeper d form.now }
@@ -61,17 +67,21 @@ pub fn back_up(
     requires sizes { sum_over (λ w. unsigned_abs w.0) values.now ≤ 2 ^ 126 }
     requires there { set.0 < length (sets_of form.now (other keeper)) }
     requires actions { first + length out.old ≤ slice_index (seat_actions form.now (other keeper)) set.0 }
+    requires kept { AreKept d (sets_of form.now keeper) weights.now kept.old }
     ensures sound { IsForm (form_model form.now) (other keeper) }
+    ensures kept { AreKept d (sets_of form.now keeper) weights.now kept.new }
     ensures small { worth_sizes (strategy_in form.now keeper d weights.now) ≤ 2 ^ 94 }
     ensures values { numbers out.new ≡ map (through (strategy_in form.now keeper d weights.now) (at (numbers values.now)) set.0) (range_with_len first (length out.old)) }
 {
     let seat = other(keeper);
     let replies = form.sets(seat);
-    let sets = form.sets(keeper);
+    let paths = paths_of(form, keeper);
     let rows = form.rows();
     set_to_zero(out);
     add_children(form, seat, replies, values, set, first, out);
-    add_rows(form, keeper, sets, rows, d, weights, set, first, out);
+    add_rows(
+        form, keeper, &paths, rows, d, weights, set, first, out, kept,
+    );
 }
 
 /// Adds the values of the sets that follow each action directly.
@@ -107,51 +117,61 @@ fn add_children(
 fn add_rows(
     form: &Form,
     keeper: u32,
-    sets: &[FormSet],
+    paths: &Paths<'_>,
     rows: &[FormRow],
     d: u32,
     weights: &[u32],
     set: SetId,
     first: u32,
     out: &mut [Worth],
+    kept: &mut [Kept],
 )
     requires keeper { (keeper ≡ 1) ⊎ (keeper ≡ 2) }
     requires small { IsSmallFor keeper d form.now }
-    requires sets { sets.now ≡ sets_of form.now keeper }
-    requires played { IsPlayed d sets.now weights.now }
+    requires sets { paths.now.sets.now ≡ sets_of form.now keeper }
+    requires paths { ArePaths paths.now.sets.now paths.now.above.now paths.now.over.now }
+    requires played { IsPlayed d paths.now.sets.now weights.now }
     requires rows { rows.now ≡ form.now.rows }
     requires row_steps { AreRows form.now.sets1 form.now.sets2 rows.now }
     requires order { AreSets (sets_of form.now (other keeper)) }
     requires there { set.0 < length (sets_of form.now (other keeper)) }
     requires sizes { (i : ℕ) → i < length out.old → unsigned_abs (at (numbers out.old) i) ≤ 2 ^ 126 }
+    requires kept { AreKept d paths.now.sets.now weights.now kept.old }
+    ensures kept { AreKept d paths.now.sets.now weights.now kept.new }
     ensures places { length out.new ≡ length out.old }
     ensures values { (i : ℕ) → i < length out.old → at (numbers out.new) i ≡ at (numbers out.old) i +ℤ through_rows (strategy_in form.now keeper d weights.now) set.0 (first + i) }
 {
     for number in form.rows_at(other(keeper), Some(set)) {
-        add_row(sets, keeper, d, weights, &rows[number as usize], first, out);
+        let row = &rows[number as usize];
+        add_row(paths, keeper, d, weights, row, first, out, kept);
     }
 }
 
 /// Adds what a row is worth to the keeper's opponent at the place of its last action, where that is among the actions from `first` on.
 fn add_row(
-    sets: &[FormSet],
+    paths: &Paths<'_>,
     keeper: u32,
     d: u32,
     weights: &[u32],
     row: &FormRow,
     first: u32,
     out: &mut [Worth],
+    kept: &mut [Kept],
 )
-    requires played { IsPlayed d sets.now weights.now }
-    requires small { IsSmallRow keeper d sets.now row.now }
+    requires paths { ArePaths paths.now.sets.now paths.now.above.now paths.now.over.now }
+    requires played { IsPlayed d paths.now.sets.now weights.now }
+    requires small { IsSmallRow keeper d paths.now.sets.now row.now }
     requires sizes { (i : ℕ) → i < length out.old → unsigned_abs (at (numbers out.old) i) + 2 ^ 77 < 2 ^ 127 }
+    requires kept { AreKept d paths.now.sets.now weights.now kept.old }
+    ensures kept { AreKept d paths.now.sets.now weights.now kept.new }
     ensures places { length out.new ≡ length out.old }
-    ensures values { (i : ℕ) → i < length out.old → at (numbers out.new) i ≡ at (numbers out.old) i +ℤ part_at first (last_of row.now (other keeper)) (row_worth keeper d sets.now weights.now row.now) i }
+    ensures values { (i : ℕ) → i < length out.old → at (numbers out.new) i ≡ at (numbers out.old) i +ℤ part_at first (last_of row.now (other keeper)) (row_worth keeper d paths.now.sets.now weights.now row.now) i }
     ensures sizes { (i : ℕ) → i < length out.old → unsigned_abs (at (numbers out.new) i) ≤ unsigned_abs (at (numbers out.old) i) + 2 ^ 77 }
 {
     let step = last_of(row, other(keeper));
     if is_among(step, first, out.len()) {
-        add_at(out, first, step, row_worth(sets, keeper, d, weights, row));
+        let worth = row_worth(paths, keeper, d, weights, row, kept);
+        add_at(out, first, step, worth);
     }
 }
 

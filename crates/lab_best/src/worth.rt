@@ -5,20 +5,42 @@ ghost use Rattle.std.specs.Int.RustNames.{unsigned_abs};
 ghost use Rattle.lab_form.specs.Forms.{last_of};
 ghost use Rattle.lab_defs_game.specs.Seats.{other};
 ghost use Rattle.lab_defs_value.specs.Replies.{worth_to};
-ghost use Rattle.lab_best.specs.Rows.{pads_of, row_weight, row_factors, row_worth, IsPlayed, IsSmallRow};
+ghost use Rattle.lab_best.specs.Kept.{AreKept};
+ghost use Rattle.lab_best.specs.Rows.{
+  pads_of,
+  row_weight,
+  row_factors,
+  row_worth,
+  ArePaths,
+  IsPlayed,
+  IsSmallRow,
+};
 
-use super::weight::path_weight;
-use lab_form::{FormRow, FormSet, SetId};
+use super::memo::{Kept, kept_weight};
+use super::weight::Paths;
+use lab_form::{FormRow, SetId};
 use lab_units::Worth;
 
 /// The weights of a seat, 1 or 2, on a row, its grid of `d` standing for each decision that the row lacks.
-pub fn row_weight(sets: &[FormSet], seat: u32, d: u32, weights: &[u32], row: &FormRow) -> u128
-    requires played { IsPlayed d sets.now weights.now }
-    requires small { IsSmallRow seat d sets.now row.now }
-    ensures value { result ≡ row_weight d seat sets.now weights.now row.now }
-    ensures within { result ≤ d ^ row_factors seat sets.now row.now }
+#[inline(always)]
+pub fn row_weight(
+    paths: &Paths<'_>,
+    seat: u32,
+    d: u32,
+    weights: &[u32],
+    row: &FormRow,
+    kept: &mut [Kept],
+) -> u128
+    requires paths { ArePaths paths.now.sets.now paths.now.above.now paths.now.over.now }
+    requires played { IsPlayed d paths.now.sets.now weights.now }
+    requires small { IsSmallRow seat d paths.now.sets.now row.now }
+    requires kept { AreKept d paths.now.sets.now weights.now kept.old }
+    ensures value { result ≡ row_weight d seat paths.now.sets.now weights.now row.now }
+    ensures within { result ≤ d ^ row_factors seat paths.now.sets.now row.now }
+    ensures kept { AreKept d paths.now.sets.now weights.now kept.new }
 {
-    path_weight(sets, d, weights, last_of(row, seat), pads_of(row, seat))
+    let (step, pad) = (last_of(row, seat), pads_of(row, seat));
+    kept_weight(paths, d, weights, step, pad, kept)
 }
 
 /// The last step of a seat, 1 or 2, on a row.
@@ -47,13 +69,23 @@ pub fn weigh(worth: Worth, weight: u128) -> Worth
 }
 
 /// What a row is worth to the keeper's opponent, by the keeper's weights on a grid of `d`.
-pub fn row_worth(sets: &[FormSet], keeper: u32, d: u32, weights: &[u32], row: &FormRow) -> Worth
-    requires played { IsPlayed d sets.now weights.now }
-    requires small { IsSmallRow keeper d sets.now row.now }
-    ensures value { result.0 ≡ row_worth keeper d sets.now weights.now row.now }
+pub fn row_worth(
+    paths: &Paths<'_>,
+    keeper: u32,
+    d: u32,
+    weights: &[u32],
+    row: &FormRow,
+    kept: &mut [Kept],
+) -> Worth
+    requires paths { ArePaths paths.now.sets.now paths.now.above.now paths.now.over.now }
+    requires played { IsPlayed d paths.now.sets.now weights.now }
+    requires small { IsSmallRow keeper d paths.now.sets.now row.now }
+    requires kept { AreKept d paths.now.sets.now weights.now kept.old }
+    ensures value { result.0 ≡ row_worth keeper d paths.now.sets.now weights.now row.now }
     ensures within { unsigned_abs result.0 ≤ 2 ^ 77 }
+    ensures kept { AreKept d paths.now.sets.now weights.now kept.new }
 {
-    let weight = row_weight(sets, keeper, d, weights, row);
+    let weight = row_weight(paths, keeper, d, weights, row, kept);
     weigh(to_opponent(row.worth, keeper), weight)
 }
 

@@ -24,6 +24,10 @@ pub not_passed : {T : Type 0} (s t : Stop) (r : Result T Stop) → IsErr r × Is
 not_passed s t (Ok x) h other = absurd h.1
 not_passed s t (Err u) h other = λ e. let same : u ≡ t = cc in other (sym h.1 ∙ same)
 
+-- what is found is no stop
+pub found_no_stop : {T : Type 0} (x : T) (t : Stop) → ◌≢◌ {A = Result T Stop} (Ok x) (Err t)
+found_no_stop x t e = absurd cc
+
 -- ---- stops that no part of a mode meets
 
 -- the sink does not fail while a game is read

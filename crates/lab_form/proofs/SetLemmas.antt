@@ -29,7 +29,7 @@ no_set sets = at (length (sets_model sets))
     at (suc n) = refl
 
 -- the set of a step's last decision: its own where that decides, else the last one above it
-set_step : (sets : List FormSet) (t : SetId × ℕ) (d : FormSet) → AreSets sets → t.0.0 < length sets
+pub set_step : (sets : List FormSet) (t : SetId × ℕ) (d : FormSet) → AreSets sets → t.0.0 < length sets
     → last_set sets (Some t) ≡ cond (nat_le 2 (get_or sets t.0.0 d).actions) (t.0.0 + 1) (last_set sets (get_or sets t.0.0 d).parent)
 set_step sets t d ok l = ap set_number (deciding_step sets t d ok l) ∙ inside (nat_le 2 (get_or sets t.0.0 d).actions)
   where

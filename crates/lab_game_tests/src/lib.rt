@@ -10,4 +10,6 @@ mod reads;
 #[cfg(test)]
 mod session_calls;
 #[cfg(test)]
+mod subgames;
+#[cfg(test)]
 mod trees;

@@ -8,8 +8,8 @@ use lab_world::WorldId;
 use std::alloc::Global;
 use std::test::Fail;
 
-// A session on that game.
-fn kuhn_session(alloc: Global) -> Result<Session, Fail> {
+/// A session on that game.
+pub fn kuhn_session(alloc: Global) -> Result<Session, Fail> {
     match Session::start(alloc, kuhn(alloc)?) {
         Ok(session) => Ok(session),
         Err(_) => Err(Fail::new("no session")),

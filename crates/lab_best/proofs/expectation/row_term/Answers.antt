@@ -9,6 +9,6 @@ pub returns-clause-within : goal.returns-clause-within
 returns-clause-within c =
     let worth = c.args.row.now.worth.0 in
     let both = c.row_weight-weight_one.result * c.row_weight-weight_two.result in
-    let small = product_small (unsigned_abs worth) (slice_index c.args.grids 0 ^ row_factors 1 c.args.sets_one.now c.args.row.now * slice_index c.args.grids 1 ^ row_factors 2 c.args.sets_two.now c.args.row.now) c.requires.small.size
+    let small = product_small (unsigned_abs worth) (slice_index c.args.grids 0 ^ row_factors 1 c.args.paths_one.now.sets.now c.args.row.now * slice_index c.args.grids 1 ^ row_factors 2 c.args.paths_two.now.sets.now c.args.row.now) c.requires.small.size
     both (mul-le-mul c.row_weight-weight_one.ensures.within c.row_weight-weight_two.ensures.within) in
     subst (λ n. n ≤ 2 ^ 77) (sym (ap unsigned_abs c.weigh.ensures ∙ unsigned_abs-mul worth (pos both))) small

@@ -26,6 +26,7 @@ loop-first-preserved c =
       within = omega arith;
       greatest = inr (subst (λ n. IsFirstGreatest (c.loop-first.first + n) h c.better-best.result.0.0 c.better-best.result.1) long
           (c.better-best.ensures h c.loop-first.invariant.greatest (λ k l. number_in_range out h c.loop-first.first c.min-count.result part k (omega (arith, l, long)))));
+      kept = c.back_up.ensures.kept;
       sound = λ some. c.back_up.ensures.sound;
       small = λ some. c.back_up.ensures.small;
     }

@@ -33,7 +33,8 @@ loop-number-init c =
       there = λ n i. subst (λ (rs : List FormRow). n < length rs) (sym c.requires.rows) (numbers_pass (λ (r : FormRow). is_at (Some c.args.set) (last_of r seat)) f.rows n no_row (subst (In n) walk i)).0;
       values = λ i l.
           ap (λ z. at (numbers c.args.out.now) i +ℤ z)
-          (rows_walk f c.args.keeper c.args.d c.args.weights.now c.requires.order steps c.args.set c.args.first i c.args.rows.now c.args.sets.now seat c.into_iter-number-iterator.result c.requires.rows c.requires.sets refl walk);
+          (rows_walk f c.args.keeper c.args.d c.args.weights.now c.requires.order steps c.args.set c.args.first i c.args.rows.now c.args.paths.now.sets.now seat c.into_iter-number-iterator.result c.requires.rows c.requires.sets refl walk);
+      kept = c.requires.kept;
       sizes = λ i l. omega (arith, few, c.requires.sizes i l);
     }
 
@@ -60,7 +61,7 @@ pub loop-number-preserved : goal.loop-number-preserved
 loop-number-preserved c =
     let n = c.in-Some.number in
     let seat = other c.args.keeper in
-    let part = λ (k i : ℕ). part_at c.args.first (last_of (get_or c.args.rows.now k no_row) seat) (row_worth c.args.keeper c.args.d c.args.sets.now c.args.weights.now (get_or c.args.rows.now k no_row)) i in
+    let part = λ (k i : ℕ). part_at c.args.first (last_of (get_or c.args.rows.now k no_row) seat) (row_worth c.args.keeper c.args.d c.args.paths.now.sets.now c.args.weights.now (get_or c.args.rows.now k no_row)) i in
     let was : (i : ℕ) → i < length c.add_row.new.out → i < length c.loop-number.out = λ i l. omega (arith, l, c.add_row.ensures.places) in
     let split : length c.loop-number.number-iterator ≡ suc (length c.next.new.self) = ap length c.in-Some.ensures.steps in
     record {
@@ -72,12 +73,13 @@ loop-number-preserved c =
           walk_total (λ k. part k i) (at (numbers c.loop-number.out) i) (at (numbers c.add_row.new.out) i) (part n i)
           (at (numbers c.args.out.now) i +ℤ through_rows (strategy_in c.args.form.now c.args.keeper c.args.d c.args.weights.now) c.args.set.0 (c.args.first + i))
           n c.loop-number.number-iterator c.next.new.self c.in-Some.ensures.steps (c.loop-number.invariant.values i (was i l)) (c.add_row.ensures.values i (was i l)) refl;
+      kept = c.add_row.ensures.kept;
       sizes = λ i l. omega (arith, c.loop-number.invariant.sizes i (was i l), split, c.add_row.ensures.sizes i (was i l));
     }
 
 pub returns-clause-values : goal.returns-clause-values
 returns-clause-values c =
     λ i l.
-    let left = ap (total (λ k. part_at c.args.first (last_of (get_or c.args.rows.now k no_row) (other c.args.keeper)) (row_worth c.args.keeper c.args.d c.args.sets.now c.args.weights.now (get_or c.args.rows.now k no_row)) i)) c.in-None.ensures.steps.0 in
+    let left = ap (total (λ k. part_at c.args.first (last_of (get_or c.args.rows.now k no_row) (other c.args.keeper)) (row_worth c.args.keeper c.args.d c.args.paths.now.sets.now c.args.weights.now (get_or c.args.rows.now k no_row)) i)) c.in-None.ensures.steps.0 in
     let done = c.loop-number.invariant.values i (omega (arith, l, c.loop-number.invariant.places)) in
     omega (arith, ints, left, done)

@@ -1,4 +1,4 @@
-use Rattle.std.proofs.Common.{◌≡◌, ℕ, ◌+◌, ◌<◌, ◌≤◌, ◌^◌, pos, ◌+ℤ◌, List, length, replicate, unsigned_abs, refl, sym, ap, ◌∙◌, subst, arith}
+use Rattle.std.proofs.Common.{◌≡◌, ◌+◌, length, unsigned_abs, ap, ◌∙◌, subst, arith}
 use Rattle.std.proofs.lemmas.Int.{ints}
 use Rattle.std.proofs.lemmas.List.{length-replicate}
 use Rattle.lab_defs_game.specs.Seats.{other}
@@ -25,7 +25,7 @@ returns-clause-sound c =
 pub returns-clause-small : goal.returns-clause-small
 returns-clause-small c =
     let f = c.args.form.now in
-    let order : AreSets (sets_of f c.args.keeper) = subst AreSets c.sets-sets.ensures.sets c.sets-sets.ensures.order in
+    let order : AreSets (sets_of f c.args.keeper) = subst AreSets c.paths_of-paths.ensures.sets c.paths_of-paths.ensures.order in
     worths_small f c.args.keeper c.args.d c.args.weights.now c.requires.keeper c.requires.small order (subst (AreRows f.sets1 f.sets2) c.rows-rows.ensures.rows c.rows-rows.ensures.there)
     (record { order = order; weights = c.requires.weights; least = keeper_grid f c.args.keeper c.args.d c.requires.keeper c.requires.small })
 

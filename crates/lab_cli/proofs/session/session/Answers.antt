@@ -10,7 +10,7 @@ use Rattle.lab_cli.proofs.AnsweredLemmas.{session_refuses, answered_within, answ
 use Rattle.lab_cli.proofs.ContinuedLemmas.{answered_passed}
 use Rattle.lab_cli.proofs.ReplyLemmas.{replies_from}
 use Rattle.lab_cli.proofs.SessionLemmas.{answered_commands}
-use Rattle.lab_cli.proofs.StopLemmas.{stop_passed, other_passed, not_passed, cut_off_no_write_fault, denied_no_read_fault, denied_no_write_fault}
+use Rattle.lab_cli.proofs.StopLemmas.{found_no_stop, stop_passed, other_passed, not_passed, cut_off_no_write_fault, denied_no_read_fault, denied_no_write_fault}
 use Rattle.lab_cli.proofs.session.session.Goals as goal
 
 pub returns-in_err-part-clause-answered : goal.returns-in_err-part-clause-answered
@@ -46,7 +46,7 @@ returns-in_err-started-clause-write_fault g c =
     λ e. absurd (not_passed c.in_err-started.field-0.0 stop.WriteFault c.from_residual-in_err-started.result c.from_residual-in_err-started.ensures (denied_no_write_fault _ c.in_err-started.field-0.0 c.in_err-started.ensures.game) e)
 
 pub returns-in_err-started-clause-no_read_fault : goal.returns-in_err-started-clause-no_read_fault
-returns-in_err-started-clause-no_read_fault g c = λ _. c.in_ok-part.ensures.no_fault (λ e. cc)
+returns-in_err-started-clause-no_read_fault g c = λ _. c.in_ok-part.ensures.no_fault (found_no_stop c.in_ok-part.part stop.ReadFault)
 
 pub replies-requires-clause-done : goal.replies-requires-clause-done
 replies-requires-clause-done g c = omega (arith, c.in_ok-part.ensures.part.few, c.in_ok-part.ensures.part.short)
@@ -61,4 +61,4 @@ pub returns-clause-read_fault : goal.returns-clause-read_fault
 returns-clause-read_fault g c = λ e. rose_earlier _ _ _ c.in_ok-part.ensures.later (c.replies.ensures.read_fault e)
 
 pub returns-clause-no_read_fault : goal.returns-clause-no_read_fault
-returns-clause-no_read_fault g c = λ other. c.replies.ensures.no_read_fault other ∙ c.in_ok-part.ensures.no_fault (λ e. cc)
+returns-clause-no_read_fault g c = λ other. c.replies.ensures.no_read_fault other ∙ c.in_ok-part.ensures.no_fault (found_no_stop c.in_ok-part.part stop.ReadFault)

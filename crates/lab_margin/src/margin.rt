@@ -1,0 +1,47 @@
+//! The rule.
+
+use lab_form::Form;
+use lab_rule::{Rule, RuleName, View, allow_nothing, write_gadget};
+use lab_units::Worth;
+
+/// After Moravčík, Schmid, Ha, Hladík and Gaukrodger, *Refining subgames in large imperfect information games*, 2016: no set may pass its
+/// bound, and the opponent chooses the root set by which it enters, each at the price of its bound. Margins are not normalised.
+#[derive(Clone, Copy, Debug, PartialEq, Eq)]
+pub struct Margin;
+
+impl Rule for Margin {
+    ghost use Rattle.std.proofs.Math.Nat.{le_of_eq};
+    ghost use Rattle.std.proofs.lemmas.List.FromFn.{length-map-range_with_len};
+    ghost use Rattle.lab_defs_value.specs.Allowances.{margin};
+    ghost use Rattle.lab_defs_value.specs.Views.{root_allowances, view_gadget};
+    ghost use Rattle.lab_rule.specs.declared.name.RuleName.TheVariants as name;
+    ghost use Rattle.lab_rule_laws.proofs.ViewShares.{view_allowance_law};
+    ghost use Rattle.lab_rule_laws.proofs.ViewPaths.{view_law};
+    ghost use Rattle.lab_rule_laws.proofs.ViewGadgets.{view_gadget_law};
+
+    ghost named = { λ _. name.Margin };
+
+    ghost allowed = { λ _ v. root_allowances margin v };
+
+    ghost gadget_on = { λ _ v allowances. view_gadget margin v allowances };
+
+    ghost counted = { λ _ v. length-map-range_with_len (λ _. 0) 0 v.roots };
+
+    ghost bounded = { λ _ v ok. view_allowance_law margin v ok };
+
+    ghost keeps = { λ _ v ok. view_law margin v ok };
+
+    ghost fits = { λ _ v ok allowances. let law = view_gadget_law margin v ok allowances in record { keepers = law.0; opponents = law.1; rows = le_of_eq law.2; weights = law.3 } };
+
+    fn name(&self) -> RuleName {
+        RuleName::Margin
+    }
+
+    fn allowances(&self, _view: &View<'_>, out: &mut [Worth]) {
+        allow_nothing(out);
+    }
+
+    fn gadget(&self, view: &View<'_>, allowances: &[Worth], form: &mut Form) {
+        write_gadget(RuleName::Margin, view, allowances, form);
+    }
+}
