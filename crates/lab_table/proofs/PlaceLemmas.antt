@@ -34,15 +34,15 @@ pub next_is : (ns : List ℕ) (i : ℕ) → i < length ns → first_weight ns (i
 next_is ns i l = first_weight_from ns i 1 ∙ ap (λ xs. first_weight ns i + first_weight xs 1) (drop_more ns i 0 l) ∙ omega arith
 
 -- there are as many numbers of actions as sets
-actions_length : (sets : List FormSet) → length (actions_in sets) ≡ length sets
+pub actions_length : (sets : List FormSet) → length (actions_in sets) ≡ length sets
 actions_length sets = length-map sets (λ (s : FormSet). s.actions)
 
 -- the number of actions of a set is what it says
-actions_is : (sets : List FormSet) (i : ℕ) (d : FormSet) → i < length sets → get_or (actions_in sets) i 0 ≡ (get_or sets i d).actions
+pub actions_is : (sets : List FormSet) (i : ℕ) (d : FormSet) → i < length sets → get_or (actions_in sets) i 0 ≡ (get_or sets i d).actions
 actions_is sets i d l = get_or-map (λ (s : FormSet). s.actions) sets i d 0 l
 
 -- its first weight has the place that it says
-first_is : (sets : List FormSet) (i : ℕ) (d : FormSet) → AreSets sets → i < length sets → first_weight (actions_in sets) i ≡ (get_or sets i d).first_weight
+pub first_is : (sets : List FormSet) (i : ℕ) (d : FormSet) → AreSets sets → i < length sets → first_weight (actions_in sets) i ≡ (get_or sets i d).first_weight
 first_is sets i d ok l = ap (sum_over weights_of) (take-map (λ (s : FormSet). s.actions) i sets) ∙ sym (ok i d l).first
 
 -- and so is where its weights end

@@ -1,0 +1,13 @@
+mod PathSteps
+mod PowerLemmas
+mod PlaceLemmas
+mod RowLaws
+mod ReachLemmas
+mod WayLemmas
+mod TableLemmas
+mod RowLemmas
+mod SettleLemmas
+mod SettleSteps
+mod PairLemmas
+mod DecisionLemmas
+mod KeptLemmas
