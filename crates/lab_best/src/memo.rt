@@ -57,13 +57,16 @@ pub fn kept_weight(
     weight
 }
 
-/// The one of so many places at which the weight of the path to a step is kept.
+/// The one of so many places at which the weight of the path to a step is kept. The sets of a node have neighbouring numbers, so those
+/// of up to 64 sets have places of their own for each of a few actions.
 fn place(step: Option<(SetId, u32)>, places: usize) -> usize
     requires { 0 < places }
     ensures { result < places }
 {
     match step {
-        Some((set, _)) => set.0 as usize & (places - 1),
+        Some((set, action)) => {
+            (set.0 as usize).wrapping_add(action as usize * 64) & (places - 1)
+        }
         None => 0,
     }
 }
