@@ -11,3 +11,4 @@ mod SettleSteps
 mod PairLemmas
 mod DecisionLemmas
 mod KeptLemmas
+mod RoomLemmas

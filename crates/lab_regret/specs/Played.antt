@@ -1,5 +1,5 @@
 -- One round, on what is kept of the seats.
-use Rattle.std.specs.Prelude.{ℕ, ◌≡◌, ◌+◌, ◌*◌, ◌^◌, ◌<◌, ◌≤◌, ℤ, List, length, All, unsigned_abs, pos, ◌+ℤ◌, slice_index}
+use Rattle.std.specs.Prelude.{ℕ, ◌≡◌, ◌+◌, ◌*◌, ◌^◌, ◌<◌, ◌≤◌, ℤ, List, length, All, unsigned_abs, pos, ◌+ℤ◌, slice_index, vec_capacity}
 use Rattle.lab_defs_value.specs.Matching.{Regrets, regrets_of, sums_of, rounded_table}
 use Rattle.lab_form.specs.declared.items.FormSet.{FormSet}
 use Rattle.lab_form.specs.Forms.{FormValue, AreSets, actions_in, weight_count}
@@ -55,3 +55,12 @@ pub record IsDown (f : FormValue) (grid1 grid2 : ℕ) (one two : Columns) : Type
   pub powers2 : AreAt f.sets2 (length f.sets2) (power_to grid2 f.sets2) two.powers.items
   pub regrets1 : (k : ℕ) → unsigned_abs (at (numbers one.regrets.items) k) ≤ 2 ^ 107
   pub regrets2 : (k : ℕ) → unsigned_abs (at (numbers two.regrets.items) k) ≤ 2 ^ 107
+
+-- no column has less room than before
+pub record KeepsRoom (old new : Columns) : Type 0 where
+  pub regrets : vec_capacity old.regrets ≤ vec_capacity new.regrets
+  pub sums : vec_capacity old.sums ≤ vec_capacity new.sums
+  pub weights : vec_capacity old.weights ≤ vec_capacity new.weights
+  pub reach : vec_capacity old.reach ≤ vec_capacity new.reach
+  pub powers : vec_capacity old.powers ≤ vec_capacity new.powers
+  pub values : vec_capacity old.values ≤ vec_capacity new.values

@@ -1,5 +1,5 @@
 -- Room for what is kept.
-use Rattle.std.specs.Prelude.{ℕ, ◌≡◌, ◌+◌, ◌≤◌, ◌^◌, ◌<◌, pos, List, length, map, replicate, slice_index, vec_capacity}
+use Rattle.std.specs.Prelude.{ℕ, ◌≡◌, ◌+◌, ◌≤◌, ◌^◌, ◌<◌, pos, List, length, map, replicate, slice_index, vec_capacity, All, unsigned_abs}
 use Rattle.lab_form.specs.declared.items.FormSet.{FormSet}
 use Rattle.lab_defs_value.specs.Tables.{first_weight}
 use Rattle.lab_regret.specs.declared.play.Columns.{Columns}
@@ -36,6 +36,7 @@ pub record AreKept (set_room weight_room : ℕ) (p : Places) (c : Columns) : Typ
   pub place_room : HasPlaces set_room p
   pub room : HasRoom weight_room c
   pub columns : AreColumns (first_weight p.actions.items (length p.actions.items)) c
+  pub small : All (λ w. unsigned_abs w.0 ≤ 2 ^ 107) c.sums.items
   pub few : first_weight p.actions.items (length p.actions.items) ≤ weight_room
   pub first_count : length p.firsts.items ≡ length p.actions.items
   pub firsts : (I : ℕ) → I < length p.actions.items → slice_index p.firsts.items I ≡ first_weight p.actions.items I

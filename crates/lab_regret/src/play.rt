@@ -1,12 +1,14 @@
 //! One round: both seats' regrets come from the same pair of tables.
 
-ghost use Rattle.std.specs.Prelude.{◌≡◌, ◌+◌, ◌^◌, ◌<◌, slice_index};
+ghost use Rattle.std.specs.Prelude.{◌≡◌, ◌+◌, ◌^◌, ◌<◌, ◌≤◌, slice_index};
+ghost use Rattle.std.specs.Int.RustNames.{unsigned_abs};
+ghost use Rattle.std.specs.List.{All};
 ghost use Rattle.lab_defs_value.specs.Matching.{regrets_after};
 ghost use Rattle.lab_defs_value.specs.Smallness.{IsSmall};
 ghost use Rattle.lab_form.specs.Forms.{form_model, weight_count, AreSets, AreRows};
 ghost use Rattle.lab_form.specs.Decisions.{decisions_above};
 ghost use Rattle.lab_regret.specs.Kept.{numbers, pair_in};
-ghost use Rattle.lab_regret.specs.Played.{AreColumns, Holds, IsBegun, HasDown, IsDown};
+ghost use Rattle.lab_regret.specs.Played.{AreColumns, Holds, IsBegun, HasDown, IsDown, KeepsRoom};
 ghost use Rattle.lab_regret.specs.Settled.{HasRegrets};
 
 use super::reach::write_reach;
@@ -43,6 +45,10 @@ pub fn play(form: &Form, grids: [u32; 2], rounds: u32, one: &mut Columns, two: &
     ensures two { AreColumns (weight_count form.now.sets2) two.new }
     ensures kept1 { Holds 1 (regrets_after (slice_index grids 0) (slice_index grids 1) (form_model form.now) (rounds + 1)) one.new }
     ensures kept2 { Holds 2 (regrets_after (slice_index grids 0) (slice_index grids 1) (form_model form.now) (rounds + 1)) two.new }
+    ensures small1 { All (λ w. unsigned_abs w.0 ≤ 2 ^ 107) one.new.sums.items }
+    ensures small2 { All (λ w. unsigned_abs w.0 ≤ 2 ^ 107) two.new.sums.items }
+    ensures room1 { KeepsRoom one.old one.new }
+    ensures room2 { KeepsRoom two.old two.new }
 {
     let sets1 = form.sets(1);
     let sets2 = form.sets(2);
@@ -67,6 +73,8 @@ fn finish(
     requires two { AreColumns (weight_count form.now.sets2) two.old }
     ensures one { AreColumns (weight_count form.now.sets1) one.new }
     ensures two { AreColumns (weight_count form.now.sets2) two.new }
+    ensures room1 { KeepsRoom one.old one.new }
+    ensures room2 { KeepsRoom two.old two.new }
     ensures sums1 { one.new.sums.items ≡ one.old.sums.items }
     ensures sums2 { two.new.sums.items ≡ two.old.sums.items }
     ensures regrets1 { HasRegrets (pair_in form.now (slice_index grids 0) (slice_index grids 1) one.old.weights.items two.old.weights.items) 1 (numbers one.old.regrets.items) (numbers one.new.regrets.items) }
@@ -112,6 +120,7 @@ fn begin(sets: &[FormSet], above: &[u32], d: u32, columns: &mut Columns)
     requires begun { IsBegun d sets.now (numbers columns.old.regrets.items) (numbers columns.old.sums.items) }
     ensures columns { AreColumns (weight_count sets.now) columns.new }
     ensures down { HasDown d sets.now columns.old columns.new }
+    ensures room { KeepsRoom columns.old columns.new }
 {
     write_table(sets, d, columns.regrets.as_slice(), columns.weights.as_mut_slice());
     write_reach(

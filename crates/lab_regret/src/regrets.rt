@@ -8,7 +8,7 @@ ghost use Rattle.lab_defs_value.specs.Matching.{regrets_of, averages};
 ghost use Rattle.lab_defs_value.specs.Smallness.{IsSmall};
 ghost use Rattle.lab_defs_value.specs.Tables.{first_weight};
 ghost use Rattle.lab_form.specs.Forms.{sets_of, form_model, weight_count};
-ghost use Rattle.lab_regret.specs.Kept.{no_regrets, regrets_on, kept_actions, FitsRoom, AreRegretsOf};
+ghost use Rattle.lab_regret.specs.Kept.{no_regrets, regrets_on, kept_actions, FitsRoom, AreRegretsOf, numbers};
 
 use super::play::{Columns, play};
 use super::room::{Places, clear_columns, columns_with_room, count_weights, places_with_room, write_places};
@@ -116,13 +116,11 @@ impl Regrets {
         requires action { action < slice_index (kept_actions self.now seat) set.0 }
         ensures { result.0 ≡ at (regrets_of self.now.tally seat) (first_weight (kept_actions self.now seat) set.0 + action) }
     {
-        let (places, columns) = if seat == 1 {
-            (&self.places1, &self.one)
+        if seat == 1 {
+            regret_at(&self.places1, &self.one, set, action)
         } else {
-            (&self.places2, &self.two)
-        };
-        let place = places.firsts[set.0 as usize] as usize + action as usize;
-        columns.regrets[place]
+            regret_at(&self.places2, &self.two, set, action)
+        }
     }
 
     /// Writes the weights of a seat, 1 or 2, that it has on average over the rounds, each weighed by its own weights on the way to it.
@@ -141,4 +139,14 @@ impl Regrets {
             write_table(form.sets(2), grid2, self.two.sums.as_slice(), out);
         }
     }
+}
+
+// The regret of an action at a deciding set of a seat, by the places of first weights.
+fn regret_at(places: &Places, columns: &Columns, set: SetId, action: u32) -> Worth
+    requires there { set.0 < length places.now.firsts.items }
+    requires within { slice_index places.now.firsts.items set.0 + action < length columns.now.regrets.items }
+    ensures { result.0 ≡ at (numbers columns.now.regrets.items) (slice_index places.now.firsts.items set.0 + action) }
+{
+    let place = places.firsts[set.0 as usize] as usize + action as usize;
+    columns.regrets[place]
 }

@@ -1,9 +1,8 @@
 //! What is kept, with room for it.
 
-ghost use Rattle.std.specs.Prelude.{◌≡◌, ◌+◌, ◌<◌, ◌≤◌, ◌^◌, ◌++◌, [], ◌∷◌, pos, length, replicate, vec_capacity, IfOk};
+ghost use Rattle.std.specs.Prelude.{◌≡◌, ◌+◌, ◌<◌, ◌≤◌, ◌^◌, ◌++◌, [], ◌∷◌, length, replicate, vec_capacity, IfOk};
 ghost use Rattle.lab_form.specs.Forms.{AreSets, actions_in, weight_count};
-ghost use Rattle.lab_regret.specs.Kept.{numbers};
-ghost use Rattle.lab_regret.specs.Played.{AreColumns};
+ghost use Rattle.lab_regret.specs.Played.{KeepsRoom};
 ghost use Rattle.lab_regret.specs.Room.{HasRoom, HasPlaces, AreZero, firsts_of};
 
 use super::play::Columns;
@@ -101,12 +100,7 @@ pub fn clear_columns(columns: &mut Columns, count: u32)
     requires { HasRoom count columns.old }
     ensures zero { AreZero count columns.new }
     ensures room { HasRoom count columns.new }
-    ensures regrets { vec_capacity columns.old.regrets ≤ vec_capacity columns.new.regrets }
-    ensures sums { vec_capacity columns.old.sums ≤ vec_capacity columns.new.sums }
-    ensures weights { vec_capacity columns.old.weights ≤ vec_capacity columns.new.weights }
-    ensures reach { vec_capacity columns.old.reach ≤ vec_capacity columns.new.reach }
-    ensures powers { vec_capacity columns.old.powers ≤ vec_capacity columns.new.powers }
-    ensures values { vec_capacity columns.old.values ≤ vec_capacity columns.new.values }
+    ensures keeps { KeepsRoom columns.old columns.new }
 {
     refill(&mut columns.regrets, count as usize, Worth(0));
     refill(&mut columns.sums, count as usize, Worth(0));

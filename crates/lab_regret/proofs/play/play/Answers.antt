@@ -1,4 +1,4 @@
-use Rattle.std.proofs.Common.{◌≡◌, ℕ, suc, ◌+◌, ◌^◌, ◌<◌, ◌≤◌, ℤ, pos, ◌+ℤ◌, List, length, sym, ap, ◌∙◌, subst, arith, add-one}
+use Rattle.std.proofs.Common.{◌≡◌, ℕ, suc, ◌+◌, ◌^◌, ◌<◌, ◌≤◌, ℤ, pos, ◌+ℤ◌, List, length, inl, inr, refl, sym, ap, ◌∙◌, subst, arith, add-one}
 use Rattle.std.specs.Prelude.{slice_index, unsigned_abs}
 use Rattle.std.specs.List.{All}
 use Rattle.std.proofs.lemmas.List.{length-map}
@@ -9,14 +9,15 @@ use Rattle.lab_defs_value.specs.Matching.{Regrets, regrets_after, pair_of, pair_
 use Rattle.lab_sizes.specs.Sizes.{IsSmallPair}
 use Rattle.lab_form.specs.declared.items.FormSet.{FormSet}
 use Rattle.lab_form.specs.Forms.{AreSets, AreRows, form_model, weight_count}
-use Rattle.lab_form.proofs.CallerLemmas.{model_actions}
+use Rattle.lab_form.proofs.CallerLemmas.{form_is, model_actions}
 use Rattle.lab_table.proofs.CallerLemmas.{all_is}
 use Rattle.lab_regret.specs.Kept.{numbers, pair_in}
 use Rattle.lab_regret.specs.Reached.{weight_to, AreAt}
 use Rattle.lab_regret.specs.Settled.{HasRegrets}
 use Rattle.lab_regret.specs.Played.{Holds, IsBegun, HasDown, IsDown}
 use Rattle.lab_regret.proofs.ReachLemmas.{AreFew}
-use Rattle.lab_regret.proofs.DecisionLemmas.{numbers_small}
+use Rattle.lab_regret.proofs.DecisionLemmas.{numbers_small, worths_small}
+use Rattle.lab_sizes.proofs.SizeRegrets.{regret_size_law}
 use Rattle.lab_regret.proofs.KeptLemmas.{begun1, begun2, round_small, table1, table2, within1, within2, reach_model, decision_within, regrets_next_are, sums_next_are}
 use Rattle.lab_regret.proofs.play.play.Goals as goal
 
@@ -174,3 +175,39 @@ returns-clause-kept2 c =
       regrets_are = regrets_next_are q 2 T.regrets2 (numbers c.finish.new.two.regrets.items) gains (long_regrets ∙ sym count) new_regrets;
       sums_are = sums_same ∙ sums;
     }
+
+pub returns-clause-small1 : goal.returns-clause-small1
+returns-clause-small1 c =
+    let f = c.args.form.now in
+    let g1 = slice_index c.args.grids 0 in
+    let g2 = slice_index c.args.grids 1 in
+    let n = c.args.rounds in
+    let ok1 : AreFew f.sets1 = record { order = subst AreSets c.sets-sets1.ensures.sets c.sets-sets1.ensures.order; few = c.requires.few1 } in
+    let ok2 : AreFew f.sets2 = record { order = subst AreSets c.sets-sets2.ensures.sets c.sets-sets2.ensures.order; few = c.requires.few2 } in
+    let rows : AreRows f.sets1 f.sets2 f.rows = subst (AreRows f.sets1 f.sets2) c.rows-rows.ensures.rows c.rows-rows.ensures.there in
+    let l : n ≤ 4096 = omega (arith, c.requires.rounds) in
+    let T = regrets_after g1 g2 (form_model f) n in
+    let q = pair_of g1 g2 (form_model f) T in
+    let kept = returns-clause-kept1 c in
+    let sizes = regret_size_law g1 g2 (form_model f) (form_is f 1 ok1.order rows) (form_is f 2 ok2.order rows) c.requires.small (n + 1) (omega (arith, c.requires.rounds)) 1 (inl refl) in
+    let sums : All (λ x. unsigned_abs x ≤ 2 ^ 107) (numbers c.finish.new.one.sums.items) =
+    subst (λ (xs : List ℤ). All (λ x. unsigned_abs x ≤ 2 ^ 107) xs) (sym kept.sums_are) (λ k d w. let small = sizes.1 k d w in omega (arith, small)) in
+    worths_small (2 ^ 107) c.finish.new.one.sums.items sums
+
+pub returns-clause-small2 : goal.returns-clause-small2
+returns-clause-small2 c =
+    let f = c.args.form.now in
+    let g1 = slice_index c.args.grids 0 in
+    let g2 = slice_index c.args.grids 1 in
+    let n = c.args.rounds in
+    let ok1 : AreFew f.sets1 = record { order = subst AreSets c.sets-sets1.ensures.sets c.sets-sets1.ensures.order; few = c.requires.few1 } in
+    let ok2 : AreFew f.sets2 = record { order = subst AreSets c.sets-sets2.ensures.sets c.sets-sets2.ensures.order; few = c.requires.few2 } in
+    let rows : AreRows f.sets1 f.sets2 f.rows = subst (AreRows f.sets1 f.sets2) c.rows-rows.ensures.rows c.rows-rows.ensures.there in
+    let l : n ≤ 4096 = omega (arith, c.requires.rounds) in
+    let T = regrets_after g1 g2 (form_model f) n in
+    let q = pair_of g1 g2 (form_model f) T in
+    let kept = returns-clause-kept2 c in
+    let sizes = regret_size_law g1 g2 (form_model f) (form_is f 1 ok1.order rows) (form_is f 2 ok2.order rows) c.requires.small (n + 1) (omega (arith, c.requires.rounds)) 2 (inr refl) in
+    let sums : All (λ x. unsigned_abs x ≤ 2 ^ 107) (numbers c.finish.new.two.sums.items) =
+    subst (λ (xs : List ℤ). All (λ x. unsigned_abs x ≤ 2 ^ 107) xs) (sym kept.sums_are) (λ k d w. let small = sizes.1 k d w in omega (arith, small)) in
+    worths_small (2 ^ 107) c.finish.new.two.sums.items sums

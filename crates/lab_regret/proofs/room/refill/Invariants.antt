@@ -2,8 +2,8 @@ use Rattle.std.proofs.Common.{◌≡◌, ◌≤◌, replicate}
 use Rattle.std.specs.Prelude.{vec_capacity}
 use Rattle.lab_regret.proofs.room.refill.Given as goal
 
-abbrev pub invariant-loop-counter : goal.invariant-loop-counter
-invariant-loop-counter g l = record {
+abbrev pub invariant-loop : goal.invariant-loop
+invariant-loop g l = record {
   items : l.items.items ≡ replicate l.counter l.item;
   room : vec_capacity l.fn.items ≤ vec_capacity l.items;
 }
