@@ -21,6 +21,7 @@ pub fn refused_command(alloc: Global, line: u32, fault: SessionFault) -> Stop
         SessionFault::NoBlueprint => refused(alloc, line, Code::NoBlueprint),
         SessionFault::SecondBlueprint => refused(alloc, line, Code::SecondBlueprint),
         SessionFault::BadSeat => refused(alloc, line, Code::BadSeat),
+        SessionFault::BadRounds => refused(alloc, line, Code::BadRounds),
         SessionFault::WrongCount { needed, given } => {
             refused_numbers(alloc, line, Code::WrongCount, needed, given)
         }

@@ -73,10 +73,13 @@ fn answer<K: Sink>(
             let reply = blueprint(session, How::Given { weights });
             write(alloc, session, line, reply, sink)
         }
+        Command::BlueprintSolve { rounds } => {
+            let reply = blueprint(session, How::Solve { rounds: *rounds });
+            write(alloc, session, line, reply, sink)
+        }
         Command::Bound { seat } => write(alloc, session, line, bound(session, *seat), sink),
         Command::Show { seat } => write(alloc, session, line, show(session, *seat), sink),
-        Command::BlueprintSolve { .. }
-        | Command::Propose { .. }
+        Command::Propose { .. }
         | Command::Resolve { .. }
         | Command::Cert { .. }
         | Command::Deal { .. }

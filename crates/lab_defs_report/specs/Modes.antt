@@ -3,7 +3,7 @@ use Rattle.std.specs.Prelude.{List, [], ◌∷◌, ◌++◌, Bool, true, false, 
 use Rattle.std.specs.Str.{bytes_eq}
 use lib.Chars.{codes}
 use Rattle.lab_defs_text.specs.Words.{Bytes, lines}
-use Rattle.lab_defs_report.specs.Commands.{Command, expect_uniform, expect, blueprint_uniform, blueprint_given, bound, show}
+use Rattle.lab_defs_report.specs.Commands.{Command, expect_uniform, expect, blueprint_uniform, blueprint_given, blueprint_solve, bound, show}
 use Rattle.lab_defs_report.specs.Cuts.{Cut, cut_from}
 use Rattle.lab_defs_report.specs.Answers.{Answer, answer}
 use Rattle.lab_defs_report.specs.GameModes.{check_cut, print_cut, verify_cut}
@@ -58,6 +58,7 @@ is_built_command expect_uniform = true
 is_built_command expect = true
 is_built_command blueprint_uniform = true
 is_built_command (blueprint_given weights) = true
+is_built_command (blueprint_solve rounds) = true
 is_built_command (bound seat) = true
 is_built_command (show seat) = true
 is_built_command _ = false

@@ -56,6 +56,8 @@ pub enum Code {
     SecondBlueprint,
     /// A seat is neither 1 nor 2.
     BadSeat,
+    /// A number of rounds is outside 1 to 4,096.
+    BadRounds,
     /// More or fewer weights are given than are needed.
     WrongCount,
     /// The weights at a set don't sum to the grid.
@@ -94,6 +96,7 @@ impl Code {
             Code::NoBlueprint => "NoBlueprint",
             Code::SecondBlueprint => "SecondBlueprint",
             Code::BadSeat => "BadSeat",
+            Code::BadRounds => "BadRounds",
             Code::WrongCount => "WrongCount",
             Code::WrongSum => "WrongSum",
         }

@@ -4,3 +4,4 @@ mod Amounts
 mod Replies
 mod Guards
 mod FaultPlaces
+mod SolvedLemmas

@@ -5,13 +5,14 @@ use Rattle.lab_defs_text.specs.Games.{GameModel}
 use Rattle.lab_defs_text.specs.Fractions.{fraction_text, quotient_text}
 use Rattle.lab_defs_text.specs.Steps.{◌>>=◌}
 use Rattle.lab_defs_game.specs.Seats.{IsSeat}
-use Rattle.lab_defs_report.specs.States.{State, Profile, some_profile, good_seat, kept, playing, no_blueprint, step_of, blueprint_reply}
+use Rattle.lab_defs_value.specs.Candidates.{solved_tables}
+use Rattle.lab_defs_report.specs.States.{State, Profile, some_profile, good_seat, good_rounds, profile_of, kept, playing, no_blueprint, step_of, blueprint_reply}
 use Rattle.lab_defs_report.specs.States as model
 use Rattle.lab_units.specs.declared.fraction.Fraction.{Fraction}
 use Rattle.lab_session.specs.Answers.{IsReduced, asked, command_of, fraction_word}
 use Rattle.lab_session.specs.Kept.{profile_by}
 use Rattle.lab_session.specs.declared.how.How.{How}
-use Rattle.lab_session.specs.declared.how.How.TheVariants.{Uniform, Given}
+use Rattle.lab_session.specs.declared.how.How.TheVariants.{Uniform, Given, Solve}
 
 -- a fraction as it is printed, as a word
 pub word_is : (f : Fraction) (value : ℤ) (units : ℕ) → IsReduced f value units → fraction_word f ≡ fraction_text value units
@@ -52,6 +53,15 @@ pub first_step : (g : GameModel) (how : How) (p : Profile) → profile_by g how 
     → step_of (record { game = g; profile = None }) (command_of how) ≡ Ok (record { game = g; profile = Some p }, blueprint_reply g p)
 first_step g Uniform p e = ap (λ (r : Result Profile model.SessionFault). r >>= λ p. playing (record { game = g; profile = None }) p (blueprint_reply g p)) e
 first_step g (Given weights) p e = ap (λ (r : Result Profile model.SessionFault). r >>= λ p. playing (record { game = g; profile = None }) p (blueprint_reply g p)) e
+first_step g (Solve rounds) p e = by (good_rounds rounds) e
+  where
+    solved : Profile
+    solved = let ts = solved_tables g rounds in profile_of g ts.0 ts.1
+
+    by : (r : Result Bool model.SessionFault) → (r >>= λ x. Ok solved) ≡ Ok p
+        → (r >>= λ x. playing (record { game = g; profile = None }) solved (blueprint_reply g solved)) ≡ Ok (record { game = g; profile = Some p }, blueprint_reply g p)
+    by (Ok x) f = ap (λ (r : Result Profile model.SessionFault). r >>= λ p. playing (record { game = g; profile = None }) p (blueprint_reply g p)) f
+    by (Err fault) f = absurd cc
 
 -- replies that are the same
 pub kept_as : (s : State) (reply words : List Bytes) → reply ≡ words → kept s reply ≡ Ok (s, words)

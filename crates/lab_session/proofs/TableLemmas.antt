@@ -1,10 +1,12 @@
 -- The tables and the form of a game, as the program has them.
-use Rattle.std.proofs.Common.{◌≡◌, ℕ, ◌≤◌, pos, List, length, map, refl, sym, ap, ◌∙◌, subst, arith, inl, inr, take_all, Result, Ok, Err}
-use Rattle.std.specs.Prelude.{IfOk}
+use Rattle.std.proofs.Common.{◌≡◌, ℕ, ◌≤◌, pos, List, length, map, Bool, true, refl, sym, ap, ◌∙◌, subst, arith, inl, inr, take_all, Result, Ok, Err}
+use Rattle.std.specs.Prelude.{IfOk, nat_le, ◌&&◌, if◌then◌else◌}
 use Rattle.std.specs.List.{range_with_len}
+use Rattle.std.proofs.lemmas.Bool.{le-leb}
 use Rattle.std.proofs.lemmas.List.{length-replicate}
 use Rattle.lab_math.specs.Sums.{sum_over}
 use Rattle.lab_defs_text.specs.Games.{GameModel}
+use Rattle.lab_defs_text.specs.Steps.{◌>>=◌}
 use Rattle.lab_defs_game.specs.Accepted.{IsAccepted}
 use Rattle.lab_defs_game.specs.Forms.{Form, form_of, actions_of, game_actions}
 use Rattle.lab_defs_game.specs.Seats.{IsSeat, grid_of}
@@ -13,11 +15,13 @@ use Rattle.lab_defs_value.specs.Tables.{weights_of, weight_count as weights_in, 
 use Rattle.lab_defs_value.specs.Replies.{IsTable, strategy_of}
 use Rattle.lab_defs_value.specs.BestValues.{best_response_value}
 use Rattle.lab_defs_value.specs.Bounds.{tight_bounds}
+use Rattle.lab_defs_value.specs.Candidates.{solved_tables}
 use Rattle.lab_defs_value.specs.Expectation.{uniform_of}
 use Rattle.lab_defs_value.specs.Matching.{zeros}
 use Rattle.lab_defs_value.specs.MatchingLaws.{IsWhole}
 use Rattle.lab_defs_value.proofs.GameStrategies.{actions_there, reply_count}
 use Rattle.lab_defs_value.proofs.RoundedTables.{rounded_whole, zero_shares_law}
+use Rattle.lab_defs_value.proofs.Rounds.{solved_law}
 use Rattle.lab_defs_value.specs.Smallness.{IsSmall}
 use Rattle.lab_sizes.proofs.SizeCounts.{small_law}
 use Rattle.lab_sizes.proofs.SizeWeights.{few_weights}
@@ -27,7 +31,11 @@ use Rattle.lab_table.specs.Tables.{TableValue, seat_actions, table_of, AreWeight
 use Rattle.lab_table.proofs.CallerLemmas.{weights_sum, sums_weigh}
 use Rattle.lab_best.specs.Values.{strategy_in, best_values, IsSmallFor}
 use Rattle.lab_best.proofs.CallerLemmas.{small_for}
+use Rattle.lab_defs_report.specs.States.{profile_of, bad_rounds}
 use Rattle.lab_session.specs.Boards.{IsTableFor, even_table}
+use Rattle.lab_session.specs.Kept.{AreTablesBy}
+use Rattle.lab_session.specs.Solved.{solved_table}
+use Rattle.lab_session.specs.declared.how.How.TheVariants.{Solve}
 
 -- ---- the form
 
@@ -105,3 +113,24 @@ even_found g f e seat is (Err x) h = tt
 pub even_for : (g : GameModel) (seat : ℕ) → {E : Type 0} (r : Result TableValue E) → IfOk r (λ t. t ≡ even_table g seat) → IfOk r (IsTableFor g seat)
 even_for g seat (Ok t) h = subst (IsTableFor g seat) (sym h) (even_is g seat)
 even_for g seat (Err x) h = tt
+
+-- the averages of regret matching are tables of both seats, by their way
+pub solved_by : (g : GameModel) (rounds : ℕ) (one two : TableValue) → 1 ≤ rounds → rounds ≤ 4096 → one ≡ solved_table g 1 rounds → two ≡ solved_table g 2 rounds
+    → AreTablesBy g (Solve rounds) one two
+solved_by g rounds one two least most e1 e2 =
+    subst (λ (t : TableValue). AreTablesBy g (Solve rounds) t two) (sym e1)
+    (subst (λ (t : TableValue). AreTablesBy g (Solve rounds) (solved_table g 1 rounds) t) (sym e2)
+    (record {
+      one = whole 1 (solved_tables g rounds).0 law.0;
+      two = whole 2 (solved_tables g rounds).1 law.1;
+      found = ap (λ (b : Bool). (if b then Ok true else Err bad_rounds) >>= λ x. let ts = solved_tables g rounds in Ok (profile_of g ts.0 ts.1)) good;
+    }))
+  where
+    law : IsWhole (grid_of g 1) (game_actions g 1) (solved_tables g rounds).0 × IsWhole (grid_of g 2) (game_actions g 2) (solved_tables g rounds).1
+    law = solved_law g rounds
+
+    whole : (seat : ℕ) (weights : List ℕ) → IsWhole (grid_of g seat) (game_actions g seat) weights → IsTableFor g seat (record { actions = game_actions g seat; weights = weights })
+    whole seat weights w = record { actions = refl; weights = sums_weigh (grid_of g seat) (game_actions g seat) weights w.0 w.2 }
+
+    good : (nat_le 1 rounds && nat_le rounds 4096) ≡ true
+    good = λ i. le-leb 1 rounds least i && le-leb rounds 4096 most i

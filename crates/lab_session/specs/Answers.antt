@@ -12,9 +12,9 @@ use Rattle.lab_defs_report.specs.States.{State, Profile, step_of, some_profile, 
 use Rattle.lab_defs_report.specs.States as model
 use Rattle.lab_units.specs.declared.fraction.Fraction.{Fraction}
 use Rattle.lab_session.specs.declared.how.How.{How}
-use Rattle.lab_session.specs.declared.how.How.TheVariants.{Uniform, Given}
+use Rattle.lab_session.specs.declared.how.How.TheVariants.{Uniform, Given, Solve}
 use Rattle.lab_session.specs.declared.fault.SessionFault.{SessionFault}
-use Rattle.lab_session.specs.declared.fault.SessionFault.TheVariants.{NoBlueprint, SecondBlueprint, BadSeat, WrongCount, WrongSum, Memory}
+use Rattle.lab_session.specs.declared.fault.SessionFault.TheVariants.{NoBlueprint, SecondBlueprint, BadSeat, BadRounds, WrongCount, WrongSum, Memory}
 
 -- ---- fractions and the words of replies
 
@@ -53,12 +53,14 @@ show_words seat weights = codes "show" ∷ numeral seat ∷ map numeral weights
 abbrev pub command_of : How → command.Command
 command_of Uniform = command.blueprint_uniform
 command_of (Given weights) = command.blueprint_given weights.now
+command_of (Solve rounds) = command.blueprint_solve rounds
 
 -- the reason by the definitions, if it is not that memory is short
 abbrev pub fault_in : SessionFault → Option model.SessionFault
 fault_in NoBlueprint = Some model.no_blueprint
 fault_in SecondBlueprint = Some model.second_blueprint
 fault_in BadSeat = Some model.bad_seat
+fault_in BadRounds = Some model.bad_rounds
 fault_in (WrongCount needed given) = Some (model.wrong_count needed given)
 fault_in (WrongSum seat set) = Some (model.wrong_sum seat set.0)
 fault_in Memory = None

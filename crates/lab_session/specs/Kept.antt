@@ -1,10 +1,12 @@
 -- What a session keeps of each seat from the blueprint on.
 use Rattle.std.specs.Prelude.{ℕ, ◌≡◌, Option, IfSome, Result, Ok}
 use Rattle.lab_defs_text.specs.Games.{GameModel}
+use Rattle.lab_defs_text.specs.Steps.{◌>>=◌}
 use Rattle.lab_defs_game.specs.Accepted.{IsAccepted}
 use Rattle.lab_defs_value.specs.Bounds.{tight_bounds}
+use Rattle.lab_defs_value.specs.Candidates.{solved_tables}
 use Rattle.lab_defs_value.specs.Expectation.{uniform_of, expectation_of_uniform, expectation_units}
-use Rattle.lab_defs_report.specs.States.{Profile, SessionFault, table_of, bounds_of, profile_of, given_tables}
+use Rattle.lab_defs_report.specs.States.{Profile, SessionFault, table_of, bounds_of, profile_of, given_tables, good_rounds}
 use Rattle.lab_table.specs.Tables.{TableValue}
 use Rattle.lab_units.specs.declared.fraction.Fraction.{Fraction}
 use Rattle.lab_session.specs.Answers.{IsReduced}
@@ -12,7 +14,7 @@ use Rattle.lab_session.specs.Boards.{IsTableFor}
 use Rattle.lab_session.specs.declared.side.Side.{Side}
 use Rattle.lab_session.specs.declared.side.Sides.{Sides}
 use Rattle.lab_session.specs.declared.how.How.{How}
-use Rattle.lab_session.specs.declared.how.How.TheVariants.{Uniform, Given}
+use Rattle.lab_session.specs.declared.how.How.TheVariants.{Uniform, Given, Solve}
 
 -- a table of a seat of a game, and its tight bounds
 pub record IsSide (g : GameModel) (seat : ℕ) (s : Side) : Type 0 where
@@ -45,6 +47,7 @@ pub record IsSession (g : GameModel) (even : Fraction) (kept : Option Sides) : T
 abbrev pub profile_by : GameModel → How → Result Profile SessionFault
 profile_by g Uniform = Ok (profile_of g (uniform_of g 1) (uniform_of g 2))
 profile_by g (Given weights) = given_tables g weights.now
+profile_by g (Solve rounds) = good_rounds rounds >>= λ x. let ts = solved_tables g rounds in Ok (profile_of g ts.0 ts.1)
 
 -- tables of both seats, by a way to a blueprint
 pub record AreTablesBy (g : GameModel) (how : How) (t1 t2 : TableValue) : Type 0 where

@@ -2,3 +2,4 @@ pub mod Answers
 pub mod Boards
 pub mod Kept
 pub mod Sessions
+pub mod Solved

@@ -23,7 +23,7 @@ use Rattle.lab_session.specs.Answers.{IsLowest}
 use Rattle.lab_session.specs.declared.start.StartFault.{StartFault}
 use Rattle.lab_session.specs.declared.start.StartFault.TheVariants.{Unfold, Recall, Memory}
 use Rattle.lab_session.specs.declared.how.How.{How}
-use Rattle.lab_session.specs.declared.how.How.TheVariants.{Uniform, Given}
+use Rattle.lab_session.specs.declared.how.How.TheVariants.{Uniform, Given, Solve}
 
 -- the world where the history with a number leads
 abbrev pub world_of : GameModel → ℕ → ℕ
@@ -47,6 +47,7 @@ IsStartFault game Memory = ⊤
 abbrev pub IsFew : How → Type 0
 IsFew Uniform = ⊤
 IsFew (Given weights) = length weights.now < 2 ^ 32
+IsFew (Solve rounds) = ⊤
 
 -- the table of a seat of a state, and its bounds
 abbrev pub IsTableOf : GameModel → ℕ → Profile → TableValue → Type 0

@@ -8,6 +8,7 @@ ghost use Rattle.lab_session.specs.declared.how.How.TheVariants.{Given, Uniform}
 
 use super::board::Board;
 use super::side::Sides;
+use super::solve::solved_tables;
 use crate::{How, SessionFault};
 use lab_table::Table;
 use std::alloc::Global;
@@ -38,6 +39,7 @@ fn tables_by(alloc: Global, board: &Board, how: How<'_>) -> Result<(Table, Table
     match how {
         How::Uniform => even_tables(alloc, board),
         How::Given { weights } => given_tables(alloc, board, weights),
+        How::Solve { rounds } => solved_tables(alloc, board, rounds),
     }
 }
 

@@ -16,16 +16,19 @@ ghost use Rattle.lab_world.specs.Games.{game_model};
 ghost use Rattle.lab_session.specs.Answers.{IsReduced};
 ghost use Rattle.lab_session.specs.Boards.{IsBoard, IsTableFor, even_table};
 ghost use Rattle.lab_session.specs.Sessions.{IsStartFault};
+ghost use Rattle.lab_session.specs.Solved.{IsSolvedGame, solved_table};
 ghost use Rattle.lab_session.specs.declared.fault.SessionFault.TheVariants.{WrongSum};
 
 use super::histories::{no_histories, no_recall};
 use super::side::Side;
+use super::solve::{averaged, solved};
 use super::units::{fraction, most_decisions, power, product};
 use crate::{SessionFault, StartFault};
 use lab_best::expect;
 use lab_bounds::BoundTable;
 use lab_form::{Form, NoMemory};
 use lab_recall::check_sets;
+use lab_regret::Regrets;
 use lab_table::{Table, TableGiven};
 use lab_tree::{Tree, laws};
 use lab_unfold::{Histories, unfold};
@@ -183,6 +186,32 @@ impl Board {
             Err(TableGiven::WrongCount { .. }) => unreachable!(),
             Err(TableGiven::Memory) => Ok(None),
         }
+    }
+
+    /// The regrets of the game after some rounds of regret matching, at most 4,096.
+    pub fn solved(&self, alloc: Global, rounds: u32) -> Result<Regrets, NoMemory>
+        requires { rounds ≤ 4096 }
+        ensures { IfOk result (IsSolvedGame self.now rounds) }
+    {
+        let weights = self.weight_count(1).max(self.weight_count(2));
+        solved(alloc, &self.form, self.game.grid, weights, rounds)
+    }
+
+    /// The average of a seat, 1 or 2, over the rounds that were played.
+    pub fn average(
+        &self,
+        alloc: Global,
+        seat: u32,
+        rounds: u32,
+        regrets: &Regrets,
+    ) -> Result<Table, NoMemory>
+        requires seat { (seat ≡ 1) ⊎ (seat ≡ 2) }
+        requires some { 1 ≤ rounds }
+        requires solved { IsSolvedGame self.now rounds regrets.now }
+        ensures { IfOk result (λ t. t ≡ solved_table self.now seat rounds) }
+    {
+        let table = self.even(alloc, seat)?;
+        Ok(averaged(&self.form, seat, regrets, table))
     }
 
     /// A table of a seat, 1 or 2, with its tight bounds.

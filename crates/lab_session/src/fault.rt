@@ -12,6 +12,8 @@ pub enum SessionFault {
     SecondBlueprint,
     #[error("a seat is 1 or 2")]
     BadSeat,
+    #[error("a number of rounds is from 1 to 4096")]
+    BadRounds,
     #[error("{needed} weights are needed, {given} are given")]
     WrongCount { needed: u32, given: u32 },
     /// At this deciding set of the seat, and at none before it, the weights don't sum to the grid.

@@ -7,4 +7,6 @@ pub enum How<'a> {
     Uniform,
     /// These weights: those of seat 1's deciding sets in set order, and then those of seat 2's.
     Given { weights: &'a [u32] },
+    /// The averages over this many rounds of regret matching on the whole game, from 1 to 4,096.
+    Solve { rounds: u32 },
 }

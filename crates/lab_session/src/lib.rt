@@ -8,6 +8,7 @@ mod histories;
 mod how;
 mod session;
 mod side;
+mod solve;
 mod start;
 mod units;
 

@@ -45,6 +45,51 @@ fn bounds_given_weights(rt: HostRuntime) -> Result<(), Fail> {
 }
 
 #[test]
+fn bounds_solved_strategies(rt: HostRuntime) -> Result<(), Fail> {
+    let kuhn = kuhn_text(rt.alloc())?;
+    let pennies_3 = with_line(rt.alloc(), PENNIES_2, 2, "grid 3")?;
+    let cases = [
+        session(
+            PENNIES_2,
+            "blueprint solve 1\n",
+            "blueprint 0/1 0/1\n",
+            Status::Done,
+        ),
+        session(
+            pennies_3.as_str(),
+            "blueprint solve 2\nshow 1\nshow 2\n",
+            "blueprint 1/1 1/3\nshow 1 3 0\nshow 2 1 2\n",
+            Status::Done,
+        ),
+        session(
+            pennies_3.as_str(),
+            "blueprint solve 3\n",
+            "blueprint 1/3 1/3\n",
+            Status::Done,
+        ),
+        session(
+            kuhn.as_str(),
+            "blueprint solve 64\nexpect\nshow 1\n",
+            "blueprint 1/4 1/2\nexpect -1/24\nshow 1 2 0 2 0 1 1 2 0 1 1 1 1\n",
+            Status::Done,
+        ),
+        session(
+            PENNIES_2,
+            "blueprint solve 4097\n",
+            "refused 21 BadRounds\n",
+            Status::Refused,
+        ),
+        session(
+            PENNIES_2,
+            "blueprint solve 0\n",
+            "refused 21 BadRounds\n",
+            Status::Refused,
+        ),
+    ];
+    run_cases(&rt, rt.alloc(), cases.as_slice())
+}
+
+#[test]
 fn refuses_commands_of_strategies(rt: HostRuntime) -> Result<(), Fail> {
     let kuhn = kuhn_text(rt.alloc())?;
     let game = kuhn.as_str();
