@@ -58,6 +58,7 @@ pub fault_refused : (line : ℕ) (s t : State) (c : Command) (f : SessionFault) 
 fault_refused line s t c fault.NoBlueprint written k b h r = fault_kept line s t c model.no_blueprint written k b h.0 h.1 r
 fault_refused line s t c fault.SecondBlueprint written k b h r = fault_kept line s t c model.second_blueprint written k b h.0 h.1 r
 fault_refused line s t c fault.BadSeat written k b h r = fault_kept line s t c model.bad_seat written k b h.0 h.1 r
+fault_refused line s t c fault.BadRounds written k b h r = fault_kept line s t c model.bad_rounds written k b h.0 h.1 r
 fault_refused line s t c (fault.WrongCount needed given) written k b h r = fault_kept line s t c (model.wrong_count needed given) written k b h.0 h.1 r
 fault_refused line s t c (fault.WrongSum seat set) written k b h r = fault_kept line s t c (model.wrong_sum seat set.0) written k b h.0 h.1 r
 fault_refused line s t c fault.Memory written k b h r = memory_kept s t (replied is_built_command line s c) written k r h.1
