@@ -1,4 +1,4 @@
-//! Tests of games, histories, trees and sessions at concrete values, across their crates.
+//! Tests of games, histories, trees and subgames at concrete values, across their crates.
 #![tactic(auto)]
 
 #[cfg(test)]
@@ -7,8 +7,6 @@ mod assembling;
 mod histories;
 #[cfg(test)]
 mod reads;
-#[cfg(test)]
-mod session_calls;
 #[cfg(test)]
 mod subgames;
 #[cfg(test)]

@@ -1,7 +1,7 @@
 //! The forms of subgames of Kuhn poker with three cards.
 ghost use Rattle.std.specs.Prelude.{◌≡◌, ◌⊎◌, ◌<◌, ◌^◌, length};
 
-use crate::session_calls::kuhn_session;
+use crate::histories::kuhn;
 use crate::trees::node_at;
 use lab_form::{Form, FormRow, FormSet, SetId};
 use lab_session::Session;
@@ -11,6 +11,14 @@ use lab_tree::laws;
 use lab_units::Worth;
 use std::alloc::Global;
 use std::test::Fail;
+
+// A session on Kuhn poker.
+fn kuhn_session(alloc: Global) -> Result<Session, Fail> {
+    match Session::start(alloc, kuhn(alloc)?) {
+        Ok(session) => Ok(session),
+        Err(_) => Err(Fail::new("no session")),
+    }
+}
 
 // The form of the subgame of a node for a keeper with these weights, written over the form of the whole game.
 fn written(
