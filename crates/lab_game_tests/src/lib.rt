@@ -1,4 +1,4 @@
-//! Tests of games, histories, trees and subgames at concrete values, across their crates.
+//! Tests of games, histories and trees at concrete values, across their crates.
 #![tactic(auto)]
 
 #[cfg(test)]
@@ -7,7 +7,5 @@ mod assembling;
 mod histories;
 #[cfg(test)]
 mod reads;
-#[cfg(test)]
-mod subgames;
 #[cfg(test)]
 mod trees;

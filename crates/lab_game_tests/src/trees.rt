@@ -71,8 +71,8 @@ fn set_at(alloc: Global, number: u32) -> Result<SetId, Fail> {
     set_in(alloc, &kuhn(alloc)?, number)
 }
 
-/// The node with a number.
-pub fn node_at(tree: &Tree, number: u32) -> Result<NodeId, Fail>
+// The node with a number.
+fn node_at(tree: &Tree, number: u32) -> Result<NodeId, Fail>
     ensures { IfOk result (λ n. n.0 < length tree.now.nodes) }
 {
     match tree.find_node(number) {
