@@ -1,5 +1,5 @@
 -- Strategies of the program's forms: what rows are worth by them, and how large it is.
-use Rattle.std.proofs.Common.{◌≡◌, ℕ, ◌+◌, ◌*◌, ◌^◌, ◌<◌, ◌≤◌, inl, inr, ℤ, pos, ◌*ℤ◌, cond, max, List, map, length, get_or, Some, unsigned_abs, refl, sym, ap, ◌∙◌, subst, arith, mul-le-mul}
+use Rattle.std.proofs.Common.{◌≡◌, ℕ, ◌+◌, ◌*◌, ◌^◌, ◌<◌, ◌≤◌, inl, inr, ℤ, pos, ◌*ℤ◌, cond, max, List, [], ◌∷◌, map, length, get_or, Some, unsigned_abs, refl, sym, ap, ◌∙◌, subst, arith, mul-le-mul}
 use Rattle.std.specs.Option.{option_map}
 use Rattle.std.proofs.lemmas.List.{get_or-map, length-map}
 use Rattle.std.proofs.lemmas.Int.{unsigned_abs-mul}
@@ -31,10 +31,11 @@ use Rattle.lab_form.specs.declared.items.SetId.{SetId}
 use Rattle.lab_form.specs.declared.items.FormRow.{FormRow}
 use Rattle.lab_form.specs.declared.items.FormSet.{FormSet}
 use Rattle.lab_form.specs.Forms.{FormValue, AreSets, AreRows, IsNextRow, sets_of, last_of, actions_in, whole_path, taken_model, sets_model, row_model, form_model}
+use Rattle.lab_form.specs.Decisions.{short_decision, row_decisions}
 use Rattle.lab_form.specs.Chains.{rows_of}
 use Rattle.lab_form.proofs.CallerLemmas.{form_is, form_sets, form_actions, row_path, seat_step, whole_path_last}
 use Rattle.lab_best.specs.Parts.{part_at, children_value}
-use Rattle.lab_best.specs.Rows.{pads_of, row_weight, row_factors, row_worth, row_term, IsPlayed, IsSmallRow, IsSmallTerm}
+use Rattle.lab_best.specs.Rows.{of_seat, pads_of, row_weight, row_factors, row_worth, row_term, IsPlayed, IsSmallRow, IsSmallTerm}
 use Rattle.lab_best.specs.Values.{strategy_in, IsSmallFor}
 use Rattle.lab_best.proofs.ThroughLemmas.{no_row, rows_total}
 
@@ -55,6 +56,25 @@ pub row_factors_is : (f : FormValue) (seat : ℕ) (r : FormRow)
 row_factors_is f seat r =
     ap (λ ns. model.deciding ns (model.path_of (row_model f.sets1 f.sets2 r) seat) + pads_of r seat) (form_actions f seat)
     ∙ ap (λ path. model.deciding (actions_in (sets_of f seat)) path + pads_of r seat) (row_path f seat r)
+
+-- ---- last decisions
+
+-- the last decisions of a row are among those of all rows
+pub row_decision : (f : FormValue) (seat : ℕ) → IsSeat seat → (n : ℕ) → n < length f.rows → (decisions : List (List ℕ)) (none : List ℕ) (r : FormRow) → decisions ≡ row_decisions f.sets1 f.sets2 f.rows
+    → of_seat (get_or decisions n none) seat ≡ short_decision (sets_of f seat) (last_of (get_or f.rows n r) seat)
+row_decision f seat ok n l decisions none r e =
+    ap (λ ds. of_seat (get_or ds n none) seat) e ∙ ap (λ d. of_seat d seat) (get_or-map of_row f.rows n r none l) ∙ at ok
+  where
+    of_row : FormRow → List ℕ
+    of_row row = short_decision f.sets1 (last_of row 1) ∷ short_decision f.sets2 (last_of row 2) ∷ []
+
+    at : IsSeat seat → of_seat (of_row (get_or f.rows n r)) seat ≡ short_decision (sets_of f seat) (last_of (get_or f.rows n r) seat)
+    at (inl e) = subst (λ k. of_seat (of_row (get_or f.rows n r)) k ≡ short_decision (sets_of f k) (last_of (get_or f.rows n r) k)) (sym e) refl
+    at (inr e) = subst (λ k. of_seat (of_row (get_or f.rows n r)) k ≡ short_decision (sets_of f k) (last_of (get_or f.rows n r) k)) (sym e) refl
+
+-- there are as many
+pub decisions_length : (f : FormValue) → length (row_decisions f.sets1 f.sets2 f.rows) ≡ length f.rows
+decisions_length f = length-map f.rows (λ row. short_decision f.sets1 (last_of row 1) ∷ short_decision f.sets2 (last_of row 2) ∷ [])
 
 -- ---- rows that end with an action
 

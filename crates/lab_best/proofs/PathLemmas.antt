@@ -1,20 +1,21 @@
 -- The decisions above a set, one by one.
 use Rattle.std.proofs.Common.{◌≡◌, ℕ, zero, suc, ◌+◌, ◌*◌, ◌-◌, ◌^◌, ◌<◌, ◌≤◌, ◌⊎◌, inl, inr, cond, List, take, length, get_or, Option, Some, None, refl, sym, ap, ◌∙◌, subst, arith, mul-le-mul, pow-suc}
 use Rattle.std.specs.Prelude.{slice_index}
+use Rattle.std.proofs.Math.Nat.{mod-eq_of_lt}
 use Rattle.std.proofs.lemmas.Bool.{cases_lt, le-leb, lt-leb}
 use Rattle.std.proofs.lemmas.List.{get_or-map, length-map, length-take-le}
 use native.Mathlib.Nat.{le_of_eq}
 use Rattle.lab_math.specs.Sums.{product_over}
 use Rattle.lab_defs_game.specs.Forms.{deciding}
-use Rattle.lab_defs_value.specs.Tables.{factor}
+use Rattle.lab_defs_value.specs.Tables.{first_weight, factor}
 use Rattle.lab_form.specs.declared.items.SetId.{SetId}
 use Rattle.lab_form.specs.declared.items.FormSet.{FormSet}
 use Rattle.lab_form.specs.Forms.{IsStepBelow, AreSets, AreShort, actions_in, whole_path}
 use Rattle.lab_form.specs.Columns.{place_of_step}
-use Rattle.lab_form.specs.Decisions.{last_decision, last_set, decisions_above, sets_above}
-use Rattle.lab_form.proofs.CallerLemmas.{by_parents, step_more, step_placed, decision_step, decides_at, passes_at, no_set, set_decided, set_step, above_short}
+use Rattle.lab_form.specs.Decisions.{last_decision, short_decision, last_set, decisions_above, sets_above}
+use Rattle.lab_form.proofs.CallerLemmas.{by_parents, step_more, step_placed, decision_step, decides_at, passes_at, no_set, set_decided, set_step, above_short, no_decision}
 use Rattle.lab_best.specs.Rows.{set_at, step_weight, weight_above, count_above, IsPlayed, ArePaths}
-use Rattle.lab_best.proofs.WeightLemmas.{no_set as none, weight_there, path_value, path_count, step_most, path_none, weight_within}
+use Rattle.lab_best.proofs.WeightLemmas.{no_set as none, weights_rise, weight_within_set, weight_there, path_value, path_count, step_most, path_none, weight_within}
 
 -- the columns of a form are its paths
 pub paths_known : (sets : List FormSet) (above over : List ℕ) → AreSets sets → AreShort sets → above ≡ decisions_above sets → over ≡ sets_above sets → ArePaths sets above over
@@ -41,16 +42,18 @@ record IsBack (grid : ℕ) (sets : List FormSet) (table : List ℕ) (o : Option 
   pub value : weight_to sets table o ≡ weight_above sets table set * slice_index table (number - 1)
   pub count : count_to sets o ≡ count_above sets set + 1
   pub most : slice_index table (number - 1) ≤ grid
+  pub after : first_weight (actions_in sets) set < number
+  pub before : number ≤ first_weight (actions_in sets) (suc set)
 
 -- the same by the number of its set plus one; with 0 there is no decision
 abbrev Back : (grid : ℕ) → List FormSet → List ℕ → Option (SetId × ℕ) → ℕ → ℕ → Type 0
-Back grid sets table o number zero = (weight_to sets table o ≡ 1) × (count_to sets o ≡ 0)
+Back grid sets table o number zero = (weight_to sets table o ≡ 1) × (count_to sets o ≡ 0) × (number ≡ 0)
 Back grid sets table o number (suc set) = IsBack grid sets table o number set
 
 -- so it is of a later step with the same decisions
 back_later : (grid : ℕ) (sets : List FormSet) (table : List ℕ) (o later : Option (SetId × ℕ)) → weight_to sets table later ≡ weight_to sets table o → count_to sets later ≡ count_to sets o → place_of_step o ≤ place_of_step later
     → (number set : ℕ) → Back grid sets table o number set → Back grid sets table later number set
-back_later grid sets table o later value count low number zero r = (value ∙ r.0, count ∙ r.1)
+back_later grid sets table o later value count low number zero r = (value ∙ r.0, count ∙ r.1, r.2)
 back_later grid sets table o later value count low number (suc set) r = record {
   earlier = omega (arith, r.earlier, low);
   some = r.some;
@@ -58,6 +61,8 @@ back_later grid sets table o later value count low number (suc set) r = record {
   value = value ∙ r.value;
   count = count ∙ r.count;
   most = r.most;
+  after = r.after;
+  before = r.before;
 }
 
 -- the last decision of each step that is there
@@ -68,7 +73,7 @@ back grid sets table ok = by_parents sets none ok.order P first at
     P o = Back grid sets table o (last_decision sets o) (last_set sets o)
 
     first : P None
-    first = subst (λ k. Back grid sets table None (last_decision sets None) k) (sym (no_set sets)) (ap (product_over (factor (actions_in sets) table)) (path_none sets), ap (deciding (actions_in sets)) (path_none sets))
+    first = subst (λ k. Back grid sets table None (last_decision sets None) k) (sym (no_set sets)) (ap (product_over (factor (actions_in sets) table)) (path_none sets), ap (deciding (actions_in sets)) (path_none sets), no_decision sets)
 
     at : (t : SetId × ℕ) → IsStepBelow sets (Some t) → P (set_at sets t.0.0).parent → P (Some t)
     at t b r = by (cases_lt (set_at sets t.0.0).actions 2)
@@ -103,8 +108,41 @@ back grid sets table ok = by_parents sets none ok.order P first at
               value = path_value grid sets table ok t b ∙ ap (λ x. weight_above sets table J * x) own;
               count = path_count grid sets table ok t b ∙ ap (λ b. count_above sets J + cond b (suc zero) zero) decides;
               most = subst (λ x. x ≤ grid) own (step_most grid sets table ok t b two);
+              after = (weight_within_set grid sets table ok t b two).0;
+              before = (weight_within_set grid sets table ok t b two).1;
             } in
             subst (λ m. Back grid sets table (Some t) m (last_set sets (Some t))) (sym n) (subst (λ m. Back grid sets table (Some t) number m) (sym k) is)
+
+-- paths with one last decision have the same weights and as many decisions
+pub same_way : (grid : ℕ) (sets : List FormSet) (table : List ℕ) → IsPlayed grid sets table → (o other : Option (SetId × ℕ)) → IsStepBelow sets o → IsStepBelow sets other → last_decision sets o ≡ last_decision sets other
+    → (weight_to sets table o ≡ weight_to sets table other) × (count_to sets o ≡ count_to sets other)
+same_way grid sets table ok o other b b' same =
+    at (last_decision sets o) (last_set sets o) (last_set sets other) (back grid sets table ok o b) (subst (λ n. Back grid sets table other n (last_set sets other)) (sym same) (back grid sets table ok other b'))
+  where
+    -- the set of a decision is known by its number
+    one_set : (number J K : ℕ) → IsBack grid sets table o number J → IsBack grid sets table other number K → J ≡ K
+    one_set number J K r s = by (cases_lt J K) (cases_lt K J)
+      where
+        by : (J < K) ⊎ (K ≤ J) → (K < J) ⊎ (J ≤ K) → J ≡ K
+        by (inl l) k = absurd (omega (arith, r.before, s.after, weights_rise (actions_in sets) (suc J) K (omega (arith, l))))
+        by (inr l) (inl k) = absurd (omega (arith, s.before, r.after, weights_rise (actions_in sets) (suc K) J (omega (arith, k))))
+        by (inr l) (inr k) = omega (arith, l, k)
+
+    at : (number J K : ℕ) → Back grid sets table o number J → Back grid sets table other number K → (weight_to sets table o ≡ weight_to sets table other) × (count_to sets o ≡ count_to sets other)
+    at number zero zero r s = (r.0 ∙ sym s.0, r.1 ∙ sym s.1)
+    at number zero (suc K) r s = absurd (omega (arith, r.2, s.some))
+    at number (suc J) zero r s = absurd (omega (arith, s.2, r.some))
+    at number (suc J) (suc K) r s =
+        let one = one_set number J K r s in
+        (r.value ∙ ap (λ I. weight_above sets table I * slice_index table (number - 1)) one ∙ sym s.value, r.count ∙ ap (λ I. count_above sets I + 1) one ∙ sym s.count)
+
+-- 32 bits hold the number of each decision where they hold that of each weight
+pub decision_short : (grid : ℕ) (sets : List FormSet) (table : List ℕ) → IsPlayed grid sets table → length table < 2 ^ 32 → (o : Option (SetId × ℕ)) → IsStepBelow sets o → short_decision sets o ≡ last_decision sets o
+decision_short grid sets table ok few o b = mod-eq_of_lt (at (last_decision sets o) (last_set sets o) (back grid sets table ok o b))
+  where
+    at : (number set : ℕ) → Back grid sets table o number set → number < 2 ^ 32
+    at number zero r = omega (arith, r.2)
+    at number (suc set) r = omega (arith, r.within, few)
 
 -- ---- the last decision above a set
 

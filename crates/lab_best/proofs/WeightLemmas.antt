@@ -27,13 +27,18 @@ no_set = record { parent = None; actions = 0; first_weight = 0 }
 
 -- ---- one step
 
--- the weights of a set end before those of all do
-weights_end : (ns : List ℕ) (i : ℕ) → i < length ns → first_weight ns i + weights_of (get_or ns i 0) ≤ first_weight ns (length ns)
-weights_end ns i l =
-    let rest : i + (length ns - i) ≡ length ns = omega (arith, l) in
-    let next : length ns - i ≡ suc (length ns - (i + 1)) = omega (arith, l) in
-    let own : first_weight (drop i ns) (length ns - i) ≡ first_weight (get_or ns i 0 ∷ drop (i + 1) ns) (suc (length ns - (i + 1))) = ap (λ xs. first_weight xs (length ns - i)) (drop_more ns i 0 l) ∙ ap (first_weight (get_or ns i 0 ∷ drop (i + 1) ns)) next in
-    omega (arith, first_weight_from ns i (length ns - i), ap (first_weight ns) rest, own)
+-- the weights of the next set begin after those of a set
+weights_next : (ns : List ℕ) (i : ℕ) → i < length ns → first_weight ns (suc i) ≡ first_weight ns i + weights_of (get_or ns i 0)
+weights_next ns i l =
+    let next : i + 1 ≡ suc i = omega arith in
+    let own : first_weight (drop i ns) 1 ≡ first_weight (get_or ns i 0 ∷ drop (i + 1) ns) 1 = ap (λ xs. first_weight xs 1) (drop_more ns i 0 l) in
+    omega (arith, first_weight_from ns i 1, ap (first_weight ns) next, own)
+
+-- the weights of later sets come later
+pub weights_rise : (ns : List ℕ) (i k : ℕ) → i ≤ k → first_weight ns i ≤ first_weight ns k
+weights_rise ns i k le =
+    let rest : i + (k - i) ≡ k = omega (arith, le) in
+    omega (arith, first_weight_from ns i (k - i), ap (first_weight ns) rest)
 
 module _ (grid : ℕ) (sets : List FormSet) (table : List ℕ) (ok : IsPlayed grid sets table) (t : SetId × ℕ) (there : IsStepBelow sets (Some t)) where
   actions_is : get_or (actions_in sets) t.0.0 0 ≡ (set_at sets t.0.0).actions
@@ -43,13 +48,20 @@ module _ (grid : ℕ) (sets : List FormSet) (table : List ℕ) (ok : IsPlayed gr
   first_is : first_weight (actions_in sets) t.0.0 ≡ (set_at sets t.0.0).first_weight
   first_is = ap (sum_over weights_of) (take-map (λ (s : FormSet). s.actions) t.0.0 sets) ∙ sym (ok.order t.0.0 no_set there.0).first
 
-  -- the weight of the step is among all
-  pub weight_there : HasWeight sets table t
-  weight_there two =
+  -- where its set decides the weight of the step is among those of the set
+  pub weight_within_set : 2 ≤ (set_at sets t.0.0).actions
+      → (first_weight (actions_in sets) t.0.0 < (set_at sets t.0.0).first_weight + t.1 + 1) × ((set_at sets t.0.0).first_weight + t.1 + 1 ≤ first_weight (actions_in sets) (suc t.0.0))
+  weight_within_set two =
       let own : weights_of (get_or (actions_in sets) t.0.0 0) ≡ (set_at sets t.0.0).actions = ap weights_of actions_is ∙ ap (λ b. cond b (set_at sets t.0.0).actions 0) (le-leb 2 (set_at sets t.0.0).actions two) in
       let l : t.0.0 < length (actions_in sets) = omega (arith, there.0, length-map sets (λ (s : FormSet). s.actions)) in
       let action : t.1 < (set_at sets t.0.0).actions = omega (arith, there.1, actions_is) in
-      omega (arith, weights_end (actions_in sets) t.0.0 l, ok.weights.count, own, first_is, action)
+      (omega (arith, first_is), omega (arith, weights_next (actions_in sets) t.0.0 l, own, first_is, action))
+
+  -- so it is among all
+  pub weight_there : HasWeight sets table t
+  weight_there two =
+      let rise = weights_rise (actions_in sets) (suc t.0.0) (length (actions_in sets)) (omega (arith, there.0, length-map sets (λ (s : FormSet). s.actions))) in
+      omega (arith, (weight_within_set two).1, rise, ok.weights.count)
 
   -- the factor of the step, as the set has it
   pub factor_is : factor (actions_in sets) table (taken_model t) ≡ step_weight sets table t

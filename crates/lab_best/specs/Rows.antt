@@ -12,9 +12,13 @@ use Rattle.lab_form.specs.Forms.{actions_in, whole_path, last_of, AreSets, IsSte
 use Rattle.lab_form.specs.Decisions.{last_decision, sets_above}
 use Rattle.lab_table.specs.Tables.{AreWeights}
 
+-- the one of two numbers that is a seat's
+abbrev pub of_seat : List ℕ → ℕ → ℕ
+of_seat numbers seat = if seat == 1 then slice_index numbers 0 else slice_index numbers 1
+
 -- the factors of the grid that a seat still brings to a row
 abbrev pub pads_of : FormRow → ℕ → ℕ
-pads_of r seat = if seat == 1 then slice_index r.pads 0 else slice_index r.pads 1
+pads_of r seat = of_seat r.pads seat
 
 -- the weights on the path to a step, and the grid for each decision that a row lacks
 abbrev pub path_weight : (grid : ℕ) → List FormSet → List ℕ → Option (SetId × ℕ) → ℕ → ℕ

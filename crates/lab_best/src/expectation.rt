@@ -4,7 +4,8 @@ ghost use Rattle.std.specs.Prelude.{◌≡◌, ◌≤◌, ◌^◌, slice_index};
 ghost use Rattle.std.specs.Int.RustNames.{unsigned_abs};
 ghost use Rattle.lab_defs_value.specs.Expectation.{expectation};
 ghost use Rattle.lab_defs_value.specs.Smallness.{IsSmall};
-ghost use Rattle.lab_form.specs.Forms.{form_model};
+ghost use Rattle.lab_form.specs.Forms.{form_model, last_of};
+ghost use Rattle.lab_form.specs.Decisions.{short_decision};
 ghost use Rattle.lab_best.specs.Kept.{AreKept};
 ghost use Rattle.lab_best.specs.Rows.{row_term, ArePaths, IsPlayed, IsSmallTerm};
 ghost use Rattle.lab_table.specs.Tables.{seat_actions, AreWeights};
@@ -25,15 +26,18 @@ pub fn expect(form: &Form, grids: [u32; 2], one: &[u32], two: &[u32]) -> Worth
 {
     let (paths_one, paths_two) = (paths_of(form, 1), paths_of(form, 2));
     let (mut kept_one, mut kept_two) = ([nothing_kept(); 256], [nothing_kept(); 256]);
+    let rows = form.rows();
+    let decisions = form.last_decisions();
     let mut sum = Worth(0);
-    for row in form.rows() {
+    for number in 0..rows.len() {
         let term = row_term(
             &paths_one,
             &paths_two,
             grids,
             one,
             two,
-            row,
+            &rows[number],
+            &decisions[number],
             &mut kept_one,
             &mut kept_two,
         );
@@ -42,7 +46,7 @@ pub fn expect(form: &Form, grids: [u32; 2], one: &[u32], two: &[u32]) -> Worth
     sum
 }
 
-/// What a row is worth to seat 1 by the weights of both seats.
+/// What a row with these last decisions of both seats is worth to seat 1 by their weights.
 fn row_term(
     paths_one: &Paths<'_>,
     paths_two: &Paths<'_>,
@@ -50,6 +54,7 @@ fn row_term(
     one: &[u32],
     two: &[u32],
     row: &FormRow,
+    decisions: &[u32; 2],
     kept_one: &mut [Kept],
     kept_two: &mut [Kept],
 ) -> Worth
@@ -58,6 +63,8 @@ fn row_term(
     requires one { IsPlayed (slice_index grids 0) paths_one.now.sets.now one.now }
     requires two { IsPlayed (slice_index grids 1) paths_two.now.sets.now two.now }
     requires small { IsSmallTerm (slice_index grids 0) (slice_index grids 1) paths_one.now.sets.now paths_two.now.sets.now row.now }
+    requires decision_one { slice_index decisions.now 0 ≡ short_decision paths_one.now.sets.now (last_of row.now 1) }
+    requires decision_two { slice_index decisions.now 1 ≡ short_decision paths_two.now.sets.now (last_of row.now 2) }
     requires kept_one { AreKept (slice_index grids 0) paths_one.now.sets.now one.now kept_one.old }
     requires kept_two { AreKept (slice_index grids 1) paths_two.now.sets.now two.now kept_two.old }
     ensures value { result.0 ≡ row_term (slice_index grids 0) (slice_index grids 1) paths_one.now.sets.now paths_two.now.sets.now one.now two.now row.now }
@@ -65,7 +72,7 @@ fn row_term(
     ensures kept_one { AreKept (slice_index grids 0) paths_one.now.sets.now one.now kept_one.new }
     ensures kept_two { AreKept (slice_index grids 1) paths_two.now.sets.now two.now kept_two.new }
 {
-    let weight_one = row_weight(paths_one, 1, grids[0], one, row, kept_one);
-    let weight_two = row_weight(paths_two, 2, grids[1], two, row, kept_two);
+    let weight_one = row_weight(paths_one, 1, grids[0], one, row, decisions[0], kept_one);
+    let weight_two = row_weight(paths_two, 2, grids[1], two, row, decisions[1], kept_two);
     weigh(row.worth, weight_one * weight_two)
 }

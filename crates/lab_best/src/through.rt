@@ -9,6 +9,7 @@ ghost use Rattle.lab_defs_value.specs.Parents.{IsForm};
 ghost use Rattle.lab_defs_value.specs.Bounds.{at, through, through_rows};
 ghost use Rattle.lab_defs_value.specs.Laws.{worth_sizes};
 ghost use Rattle.lab_form.specs.Forms.{sets_of, last_of, form_model, AreSets, AreRows};
+ghost use Rattle.lab_form.specs.Decisions.{row_decisions, short_decision};
 ghost use Rattle.lab_best.specs.Kept.{AreKept};
 ghost use Rattle.lab_best.specs.Rows.{row_worth, ArePaths, IsPlayed, IsSmallRow};
 ghost use Rattle.lab_table.specs.Tables.{seat_actions, AreWeights};
@@ -17,7 +18,7 @@ ghost use Rattle.lab_best.specs.Values.{strategy_in, numbers, IsSmallFor};
 
 use super::memo::{Kept, nothing_kept};
 use super::weight::{Paths, paths_of};
-use super::worth::{last_of, plus, row_worth, set_to_zero};
+use super::worth::{last_of, of_seat, plus, row_worth, set_to_zero};
 use lab_form::{Form, FormRow, FormSet, SetId, other};
 use lab_units::Worth;
 
@@ -77,10 +78,11 @@ pub fn back_up(
     let replies = form.sets(seat);
     let paths = paths_of(form, keeper);
     let rows = form.rows();
+    let decisions = form.last_decisions();
     set_to_zero(out);
     add_children(form, seat, replies, values, set, first, out);
     add_rows(
-        form, keeper, &paths, rows, d, weights, set, first, out, kept,
+        form, keeper, &paths, rows, decisions, d, weights, set, first, out, kept,
     );
 }
 
@@ -119,6 +121,7 @@ fn add_rows(
     keeper: u32,
     paths: &Paths<'_>,
     rows: &[FormRow],
+    decisions: &[[u32; 2]],
     d: u32,
     weights: &[u32],
     set: SetId,
@@ -132,6 +135,7 @@ fn add_rows(
     requires paths { ArePaths paths.now.sets.now paths.now.above.now paths.now.over.now }
     requires played { IsPlayed d paths.now.sets.now weights.now }
     requires rows { rows.now ≡ form.now.rows }
+    requires decisions { decisions.now ≡ row_decisions form.now.sets1 form.now.sets2 form.now.rows }
     requires row_steps { AreRows form.now.sets1 form.now.sets2 rows.now }
     requires order { AreSets (sets_of form.now (other keeper)) }
     requires there { set.0 < length (sets_of form.now (other keeper)) }
@@ -143,7 +147,8 @@ fn add_rows(
 {
     for number in form.rows_at(other(keeper), Some(set)) {
         let row = &rows[number as usize];
-        add_row(paths, keeper, d, weights, row, first, out, kept);
+        let decision = of_seat(&decisions[number as usize], keeper);
+        add_row(paths, keeper, d, weights, row, decision, first, out, kept);
     }
 }
 
@@ -154,6 +159,7 @@ fn add_row(
     d: u32,
     weights: &[u32],
     row: &FormRow,
+    decision: u32,
     first: u32,
     out: &mut [Worth],
     kept: &mut [Kept],
@@ -161,6 +167,7 @@ fn add_row(
     requires paths { ArePaths paths.now.sets.now paths.now.above.now paths.now.over.now }
     requires played { IsPlayed d paths.now.sets.now weights.now }
     requires small { IsSmallRow keeper d paths.now.sets.now row.now }
+    requires decision { decision ≡ short_decision paths.now.sets.now (last_of row.now keeper) }
     requires sizes { (i : ℕ) → i < length out.old → unsigned_abs (at (numbers out.old) i) + 2 ^ 77 < 2 ^ 127 }
     requires kept { AreKept d paths.now.sets.now weights.now kept.old }
     ensures kept { AreKept d paths.now.sets.now weights.now kept.new }
@@ -170,7 +177,7 @@ fn add_row(
 {
     let step = last_of(row, other(keeper));
     if is_among(step, first, out.len()) {
-        let worth = row_worth(paths, keeper, d, weights, row, kept);
+        let worth = row_worth(paths, keeper, d, weights, row, decision, kept);
         add_at(out, first, step, worth);
     }
 }

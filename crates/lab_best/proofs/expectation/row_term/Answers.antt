@@ -5,6 +5,11 @@ use Rattle.lab_best.specs.Rows.{row_factors}
 use Rattle.lab_best.proofs.SizeLemmas.{product_small}
 use Rattle.lab_best.proofs.expectation.row_term.Goals as goal
 
+pub weigh-requires-clause-product : goal.weigh-requires-clause-product
+weigh-requires-clause-product c =
+    product_small (unsigned_abs c.args.row.now.worth.0) (slice_index c.args.grids 0 ^ row_factors 1 c.args.paths_one.now.sets.now c.args.row.now * slice_index c.args.grids 1 ^ row_factors 2 c.args.paths_two.now.sets.now c.args.row.now) c.requires.small.size
+    (c.row_weight-weight_one.result * c.row_weight-weight_two.result) (mul-le-mul c.row_weight-weight_one.ensures.within c.row_weight-weight_two.ensures.within)
+
 pub returns-clause-within : goal.returns-clause-within
 returns-clause-within c =
     let worth = c.args.row.now.worth.0 in

@@ -1,4 +1,4 @@
-use Rattle.std.proofs.Common.{◌≡◌, ℕ, suc, ◌+◌, ◌<◌, ◌≤◌, ◌^◌, ◌+ℤ◌, List, length, get_or, Some, inl, inr, refl, sym, ap, ◌∙◌, subst, arith}
+use Rattle.std.proofs.Common.{◌≡◌, ℕ, suc, ◌+◌, ◌<◌, ◌≤◌, ◌^◌, ◌+ℤ◌, List, [], length, get_or, Some, inl, inr, refl, sym, ap, ◌∙◌, subst, arith}
 use Rattle.std.proofs.lemmas.Int.{ints}
 use Rattle.std.proofs.lemmas.List.{length-map}
 use Rattle.lab_math.specs.Sums.{total}
@@ -8,6 +8,7 @@ use Rattle.lab_defs_value.specs.Bounds.{at, through_rows}
 use Rattle.lab_form.specs.declared.items.FormSet.{FormSet}
 use Rattle.lab_form.specs.declared.items.FormRow.{FormRow}
 use Rattle.lab_form.specs.Forms.{AreRows, sets_of, last_of, row_model}
+use Rattle.lab_form.specs.Decisions.{short_decision}
 use Rattle.lab_form.specs.Chains.{rows_of, is_at}
 use Rattle.lab_form.proofs.CallerLemmas.{numbers_pass}
 use Rattle.lab_best.specs.Parts.{part_at}
@@ -15,7 +16,7 @@ use Rattle.lab_best.specs.Rows.{row_worth, IsSmallRow}
 use Rattle.lab_best.specs.Values.{strategy_in, numbers}
 use Rattle.lab_best.proofs.NumberLemmas.{walk_total}
 use Rattle.lab_best.proofs.ThroughLemmas.{no_row, numbers_few}
-use Rattle.lab_best.proofs.FormLemmas.{rows_walk, small_rows}
+use Rattle.lab_best.proofs.FormLemmas.{row_decision, decisions_length, rows_walk, small_rows}
 use Rattle.lab_best.proofs.through.add_rows.Goals as goal
 
 pub loop-number-init : goal.loop-number-init
@@ -40,6 +41,21 @@ loop-number-init c =
 
 pub bounds-rows-number : goal.bounds-rows-number
 bounds-rows-number c = c.loop-number.invariant.there c.in-Some.number (subst (In c.in-Some.number) (sym c.in-Some.ensures.steps) (inl refl))
+
+pub bounds-decisions-number : goal.bounds-decisions-number
+bounds-decisions-number c =
+    let there = c.loop-number.invariant.there c.in-Some.number (subst (In c.in-Some.number) (sym c.in-Some.ensures.steps) (inl refl)) in
+    omega (arith, subst (λ (rs : List FormRow). c.in-Some.number < length rs) c.requires.rows there, ap length c.requires.decisions, decisions_length c.args.form.now)
+
+pub add_row-requires-clause-decision : goal.add_row-requires-clause-decision
+add_row-requires-clause-decision c =
+    let f = c.args.form.now in
+    let n = c.in-Some.number in
+    let there = c.loop-number.invariant.there n (subst (In n) (sym c.in-Some.ensures.steps) (inl refl)) in
+    c.of_seat-decision.ensures
+    ∙ row_decision f c.args.keeper c.requires.keeper n (subst (λ (rs : List FormRow). n < length rs) c.requires.rows there) c.args.decisions.now [] no_row c.requires.decisions
+    ∙ ap (λ (ss : List FormSet). short_decision ss (last_of (get_or f.rows n no_row) c.args.keeper)) (sym c.requires.sets)
+    ∙ ap (λ (rs : List FormRow). short_decision c.args.paths.now.sets.now (last_of (get_or rs n no_row) c.args.keeper)) (sym c.requires.rows)
 
 pub add_row-requires-clause-small : goal.add_row-requires-clause-small
 add_row-requires-clause-small c =
